@@ -1,0 +1,67 @@
+-- The checks of a call in their order: a number is answered exactly if its cause holds and no earlier one does.
+-- Assumes nothing.
+use Prim.Native.Nat.{ℕ, zero, suc, _<_}
+use mathlib.Core.Path.{_≡_, refl, sym, _∙_}
+use mathlib.Core.Bool.{Bool, true, false, not, _&&_, cond, false≢true, true≢false}
+use mathlib.Core.List.{List, [], _∷_}
+use native.Mathlib.Omega.{arith}
+use borrow.Author.Tests.{eqb-false, not-true}
+use lib.Dec.{T, eqb}
+use lib.ListN.{length, getD}
+use Rattle.rules.specs.Rules.{Check, _when_, answerOf, nth, refusing, Answers}
+use Rattle.rules.proofs.Tests.{both}
+
+-- a check that comes after one whose cause does not hold
+later : (c : Check) (cs : List Check) (n i : ℕ) → c .cause ≡ false → Answers cs n i → Answers (c ∷ cs) n (suc i)
+later c cs n i e a =
+    record {
+      within-list = omega (arith, a .within-list);
+      number-is = a .number-is;
+      cause-holds = a .cause-holds;
+      none-before = λ j h. before j h;
+    }
+  where
+    before : (j : ℕ) → j < suc i → nth (c ∷ cs) j .cause ≡ false
+    before zero h = e
+    before (suc j) h = a .none-before j (omega arith)
+
+-- what is answered, if not 0, has a first cause that holds
+pub has-cause : (cs : List Check) (n : ℕ) → answerOf cs ≡ n → (n ≡ 0 → ⊥) → (i : ℕ) × Answers cs n i
+has-cause [] n e z = absurd (z (sym e))
+has-cause (c ∷ cs) n e z = go (c .cause) refl e (λ h. has-cause cs n h z)
+  where
+    go : (b : Bool) → c .cause ≡ b → cond b (c .answer) (answerOf cs) ≡ n → (answerOf cs ≡ n → (i : ℕ) × Answers cs n i) → (i : ℕ) × Answers (c ∷ cs) n i
+    go true h a r =
+        (0, record { within-list = omega arith; number-is = a; cause-holds = h; none-before = λ j l. absurd (omega arith) })
+    go false h a r = let s = r a in (suc (s .0), later c cs n (s .0) h (s .1))
+
+-- and the first cause that holds is what is answered
+pub is-answered : (cs : List Check) (n i : ℕ) → Answers cs n i → answerOf cs ≡ n
+is-answered [] n i a = absurd (omega (arith, a .within-list))
+is-answered (c ∷ cs) n zero a = rw (a .cause-holds) (a .number-is)
+is-answered (c ∷ cs) n (suc i) a =
+    let e : c .cause ≡ false = a .none-before 0 (omega arith) in
+    rw e
+    (is-answered cs n i
+    (record {
+      within-list = omega (arith, a .within-list);
+      number-is = a .number-is;
+      cause-holds = a .cause-holds;
+      none-before = λ j h. a .none-before (suc j) (omega arith);
+    }))
+
+-- 0 is answered exactly where no cause holds
+pub passed : (cs : List Check) → T (refusing cs) → answerOf cs ≡ 0 → (i : ℕ) → nth cs i .cause ≡ false
+passed [] t e i = refl
+passed (c ∷ cs) t e i = go (c .cause) (eqb (c .answer) 0) refl refl e t i (λ u h j. passed cs u h j)
+  where
+    go : (b z : Bool) → c .cause ≡ b → eqb (c .answer) 0 ≡ z → cond b (c .answer) (answerOf cs) ≡ 0 → T (not z && refusing cs) → (i : ℕ) → (T (refusing cs) → answerOf cs ≡ 0 → (j : ℕ) → nth cs j .cause ≡ false) → nth (c ∷ cs) i .cause ≡ false
+    go true true p q a u i r = absurd u
+    go true false p q a u i r = absurd (eqb-false (c .answer) 0 q a)
+    go false true p q a u i r = absurd u
+    go false false p q a u zero r = p
+    go false false p q a u (suc i) r = r u a i
+
+pub passes : (cs : List Check) → ((i : ℕ) → nth cs i .cause ≡ false) → answerOf cs ≡ 0
+passes [] h = refl
+passes (c ∷ cs) h = rw (h 0) (passes cs (λ i. h (suc i)))
