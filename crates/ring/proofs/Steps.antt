@@ -1,0 +1,76 @@
+-- The step round a ring: a slot number is below the size, two distances below a lap give two slots, and distance and slot undo each other.
+-- Assumes nothing.
+use Prim.Native.Nat.{ℕ, zero, suc, _+_, _-_, _%_, _≤_, _<_}
+use mathlib.Core.Path.{_≡_, refl, sym, ap, _∙_}
+use mathlib.Core.Logic.{_≢_, _⊎_, inl, inr, ⊎-elim}
+use mathlib.Core.Bool.{true}
+use native.Mathlib.Nat.{mod-lt, mod-add-mod, mod-eq-of-lt, mod-eq-sub-mod}
+use native.Mathlib.Decide.{decLt}
+use native.Mathlib.Omega.{arith}
+use borrow.Author.Tests.{lt-ltb, ltb-true}
+use Rattle.ring.specs.Slots.{slotAt, distance, isDevices}
+
+pub slot-below : (head size k : ℕ) → 0 < size → slotAt head size k < size
+slot-below head size k h = mod-lt (head + k) h
+
+-- a sum of less than two laps is itself, or itself less a lap
+pub wrap : (x size : ℕ) → x < size + size → ((x % size ≡ x) × (x < size)) ⊎ ((x % size + size ≡ x) × (size ≤ x))
+wrap x size h = go (decLt x size)
+  where
+    go : Dec (x < size) → ((x % size ≡ x) × (x < size)) ⊎ ((x % size + size ≡ x) × (size ≤ x))
+    go (yes l) = inl (mod-eq-of-lt l, l)
+    go (no l) =
+        let g : size ≤ x = omega arith in
+        let m : x - size < size = omega arith in
+        inr (omega (arith, mod-eq-sub-mod g ∙ mod-eq-of-lt m), g)
+
+-- a slot number and a lap
+lap : (s size : ℕ) → s < size → (s + size) % size ≡ s
+lap s size h = ⊎-elim (λ w. omega arith) (λ w. omega arith) (wrap (s + size) size (omega arith))
+
+-- two places less than a lap apart differ
+between : (size m e : ℕ) → 0 < e → e < size → m % size ≢ (m + e) % size
+between size m e pos less q =
+    let low : m % size < size = mod-lt m (omega arith) in
+    let same : (m % size + e) % size ≡ m % size = mod-add-mod m size e ∙ sym q in
+    ⊎-elim (λ w. omega (arith, same)) (λ w. omega (arith, same)) (wrap (m % size + e) size (omega arith))
+
+further : (head size k d : ℕ) → k < d → d < size → slotAt head size k ≢ slotAt head size d
+further head size k d less l e =
+    between size (head + k) (d - k) (omega arith) (omega arith) (e ∙ ap (λ (n : ℕ). n % size) (omega arith))
+
+-- two distances below the size give two slots
+pub apart : (head size k d : ℕ) → k < size → d < size → k ≢ d → slotAt head size k ≢ slotAt head size d
+apart head size k d hk hd ne e = go (decLt k d)
+  where
+    go : Dec (k < d) → ⊥
+    go (yes l) = further head size k d l hd e
+    go (no l) = further head size d k (omega arith) hk (sym e)
+
+-- the slot at a distance is that far from head, and the slot at a slot's distance is that slot
+pub distance-slot : (head size k : ℕ) → head < size → k < size → distance head size (slotAt head size k) ≡ k
+distance-slot head size k h l =
+    let e : head + k + (size - head) ≡ k + size = omega arith in
+    mod-add-mod (head + k) size (size - head) ∙ rw e (lap k size l)
+
+pub slot-distance : (head size s : ℕ) → head < size → s < size → slotAt head size (distance head size s) ≡ s
+slot-distance head size s h l =
+    let up : s + (size - head) < size + size = omega arith in
+    ⊎-elim (λ w. one (omega arith)) (λ w. two (omega arith)) (wrap (s + (size - head)) size up)
+  where
+    d : ℕ
+    d = distance head size s
+
+    one : head + d ≡ s + size → (head + d) % size ≡ s
+    one e = rw e (lap s size l)
+
+    two : head + d ≡ s → (head + d) % size ≡ s
+    two e = rw e (mod-eq-of-lt l)
+
+-- a slot is the device's exactly if it is one of the posted ones from head upward
+pub devices-slot : (head size posted k : ℕ) → head < size → k < size → k < posted → isDevices head size posted (slotAt head size k) ≡ true
+devices-slot head size posted k h l p = rw (distance-slot head size k h l) (lt-ltb k posted p)
+
+pub devices-only : (head size posted s : ℕ) → head < size → s < size → isDevices head size posted s ≡ true
+    → (k : ℕ) × ((k < posted) × (slotAt head size k ≡ s))
+devices-only head size posted s h l e = (distance head size s, (ltb-true _ _ e, slot-distance head size s h l))

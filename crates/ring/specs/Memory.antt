@@ -1,0 +1,22 @@
+-- A ring in memory: slot s of a ring with `width` numbers a slot is the numbers from width * s on.
+-- Assumes nothing.
+use Prim.Native.Nat.{ℕ, zero, suc, _+_, _*_}
+use mathlib.Core.List.{List, [], _∷_}
+use lib.ListN.{getD, set}
+
+-- numbers stored one after another, from place i on
+abbrev pub storeFrom : List ℕ → ℕ → List ℕ → List ℕ
+storeFrom memory i [] = memory
+storeFrom memory i (x ∷ xs) = storeFrom (set memory i x) (i + 1) xs
+
+-- n numbers read one after another, from place i on
+abbrev pub readFrom : List ℕ → ℕ → ℕ → List ℕ
+readFrom memory i zero = []
+readFrom memory i (suc n) = getD memory i 0 ∷ readFrom memory (i + 1) n
+
+-- the numbers of slot s stored, and read
+abbrev pub store : ℕ → List ℕ → ℕ → List ℕ → List ℕ
+store width memory s xs = storeFrom memory (width * s) xs
+
+abbrev pub numbersAt : ℕ → List ℕ → ℕ → List ℕ
+numbersAt width memory s = readFrom memory (width * s) width
