@@ -7,8 +7,8 @@ use mathlib.Core.List.{List, [], _∷_}
 use native.Mathlib.Omega.{arith}
 use native.Mathlib.Numerals.{add-one}
 use native.Mathlib.Decide.{le-ind}
-use borrow.Author.Tests.{le-leb, lt-leb, leb-true, leb-false, eqb-true, eq-eqb}
-use lib.Dec.{T, leb, eqb}
+use borrow.Author.Tests.{le-leb, lt-leb, leb-true, leb-false, lt-ltb, le-ltb, ltb-true, ltb-false, eqb-true}
+use lib.Dec.{T, leb, ltb, eqb}
 use lib.ListN.{getD}
 use Rattle.rules.specs.Rules.{within, inSteps, anyFrom, anyOf, allBelow}
 
@@ -35,12 +35,15 @@ true-T true e = tt
 true-T false e = absurd (false≢true e)
 
 -- two tests with the same outcome
+pub same : (s t : Bool) → (s ≡ true → t ≡ true) → (s ≡ false → t ≡ false) → s ≡ t
+same true t f g = sym (f refl)
+same false t f g = sym (g refl)
+
 pub leb-same : (a b c d : ℕ) → (a ≤ b → c ≤ d) → (b < a → d < c) → leb a b ≡ leb c d
-leb-same a b c d f g = go (leb a b) refl
-  where
-    go : (t : Bool) → leb a b ≡ t → leb a b ≡ leb c d
-    go true e = e ∙ sym (le-leb c d (f (leb-true a b e)))
-    go false e = e ∙ sym (lt-leb c d (g (leb-false a b e)))
+leb-same a b c d f g = same (leb a b) (leb c d) (λ e. le-leb c d (f (leb-true a b e))) (λ e. lt-leb c d (g (leb-false a b e)))
+
+pub ltb-same : (a b c d : ℕ) → (a < b → c < d) → (b ≤ a → d ≤ c) → ltb a b ≡ ltb c d
+ltb-same a b c d f g = same (ltb a b) (ltb c d) (λ e. lt-ltb c d (f (ltb-true a b e))) (λ e. le-ltb c d (g (ltb-false a b e)))
 
 module _ (low high x : ℕ) where
   pub within-yes : low ≤ x → x ≤ high → within low high x ≡ true

@@ -1,0 +1,4 @@
+pub mod Queue
+pub mod Slots
+pub mod Post
+pub mod Take

@@ -1,0 +1,55 @@
+-- Post (01, "Receiving"): its checks in their order, the record and the lent memory after it.
+-- Assumes nothing.
+use Prim.Native.Nat.{ℕ, _+_, _-_}
+use mathlib.Core.Path.{_≡_}
+use mathlib.Core.Bool.{not, cond}
+use mathlib.Core.List.{List, [], _∷_}
+use lib.Dec.{eqb}
+use lib.ListN.{length, set}
+use Rattle.rules.specs.Rules.{Check, _when_, answerOf}
+use Rattle.rules.specs.Address.{addressWrong}
+use Rattle.writeback.specs.WriteBack.{Words}
+use Rattle.receive.specs.declared.RxQueue.{RxQueue}
+use Rattle.receive.specs.declared.Posted.{Posted}
+use Rattle.receive.specs.Queue.{lentOk, tailOf, movedTo}
+use Rattle.receive.specs.Slots.{storeWords}
+
+-- of a ring and a list so long: 1 the record or a slice is wrong, 2 the address is wrong, 3 posted = size - 1
+abbrev pub postChecks : RxQueue → ℕ → ℕ → ℕ → List Check
+postChecks q ring list address =
+    1 when not (lentOk q ring list)
+    ∷ 2 when addressWrong address (q .buffer)
+    ∷ 3 when eqb (q .posted) (q .size - 1)
+    ∷ []
+
+unfoldable pub postAnswer : RxQueue → ℕ → ℕ → ℕ → ℕ
+postAnswer q ring list address = answerOf (postChecks q ring list address)
+
+-- a slot as it is posted: word 0 = address, word 1 = 0
+abbrev pub blank : ℕ → Words
+blank address = record { word0 = address; word1 = 0 }
+
+-- one to posted
+abbrev pub oneMore : RxQueue → RxQueue
+oneMore q = movedTo q (q .head) (q .posted + 1)
+
+module _ (q : RxQueue) (ring list : List ℕ) (address : ℕ) where
+  abbrev pub answerTo : ℕ
+  answerTo = postAnswer q (length ring) (length list) address
+
+  -- the answer, and the record with one slot more where it is 0
+  abbrev pub postOf : Posted
+  postOf = record { answer = answerTo; queue = cond (eqb answerTo 0) (oneMore q) q }
+
+  -- the slot at the tail, in the ring and in the companion list
+  abbrev pub ringAfter : List ℕ
+  ringAfter = cond (eqb answerTo 0) (storeWords ring (tailOf q) (blank address)) ring
+
+  abbrev pub listAfter : List ℕ
+  listAfter = cond (eqb answerTo 0) (set list (tailOf q) address) list
+
+  -- all that post returns and leaves
+  pub record PostedAs (r : Posted) (ring′ list′ : List ℕ) : Type 0 where
+    pub result-is : r ≡ postOf
+    pub ring-is : ring′ ≡ ringAfter
+    pub list-is : list′ ≡ listAfter

@@ -1,0 +1,82 @@
+-- The receive queue record (01, "The queue record"): the lines that it keeps, a fresh queue, the tail.
+-- Assumes nothing.
+use Prim.Native.Nat.{ℕ, _+_, _*_, _≤_, _<_}
+use mathlib.Core.Path.{_≡_}
+use mathlib.Core.Bool.{Bool, _&&_, cond}
+use lib.Dec.{leb, ltb, eqb}
+use Rattle.rules.specs.Rules.{inSteps}
+use Rattle.ring.specs.Slots.{slotAt, tailAt}
+use Rattle.receive.specs.declared.RxQueue.{RxQueue}
+use Rattle.receive.specs.declared.Fresh.{Fresh}
+use Rattle.receive.specs.declared.Asked.{Asked}
+
+-- the table's lines: queue number 0 to 3, size and buffer size between their bounds in their steps
+abbrev pub mostQueue : ℕ
+mostQueue = 3
+
+abbrev pub mostSize : ℕ
+mostSize = 4096
+
+abbrev pub numbersOk : ℕ → ℕ → ℕ → Bool
+numbersOk queue size buffer = leb queue mostQueue && (inSteps 32 mostSize 32 size && inSteps 1024 16256 128 buffer)
+
+-- an accepted record: these lines, head below size, posted at most size - 1
+unfoldable pub recordOk : RxQueue → Bool
+recordOk q = numbersOk (q .queue) (q .size) (q .buffer) && (ltb (q .head) (q .size) && ltb (q .posted) (q .size))
+
+-- and lent slices of exactly the size's lengths: a ring and a companion list so long
+unfoldable pub lentOk : RxQueue → ℕ → ℕ → Bool
+lentOk q ring list = recordOk q && (eqb ring (2 * q .size) && eqb list (q .size))
+
+-- what an accepted record keeps, as facts
+pub record Kept (q : RxQueue) : Type 0 where
+  pub queue-high : q .queue ≤ mostQueue
+  pub size-low : 32 ≤ q .size
+  pub size-high : q .size ≤ mostSize
+  pub buffer-low : 1024 ≤ q .buffer
+  pub buffer-high : q .buffer ≤ 16256
+  pub head-below : q .head < q .size
+  pub posted-below : q .posted < q .size
+
+-- an accepted record, with one lent slice so long as it has to be
+pub record Ready (q : RxQueue) (long wanted : ℕ) : Type 0 where
+  pub is : Kept q
+  pub long-is : long ≡ wanted
+
+-- the same for the ring and the list
+pub record Lent (q : RxQueue) (ring list : ℕ) : Type 0 where
+  pub is : Kept q
+  pub ring-long : ring ≡ 2 * q .size
+  pub list-long : list ≡ q .size
+
+-- the slot at a distance from head, and the tail
+abbrev pub slotOf : RxQueue → ℕ → ℕ
+slotOf q k = slotAt (q .head) (q .size) k
+
+abbrev pub tailOf : RxQueue → ℕ
+tailOf q = tailAt (q .head) (q .size) (q .posted)
+
+-- the record with another head and posted
+abbrev pub movedTo : RxQueue → ℕ → ℕ → RxQueue
+movedTo q head posted = record { queue = q .queue; size = q .size; head = head; posted = posted; buffer = q .buffer }
+
+abbrev pub emptyQueue : ℕ → ℕ → ℕ → RxQueue
+emptyQueue queue size buffer = record { queue = queue; size = size; head = 0; posted = 0; buffer = buffer }
+
+-- a fresh queue: head 0 and posted 0; outside the lines, 1 and an all-zero record
+unfoldable pub freshOf : ℕ → ℕ → ℕ → Fresh
+freshOf queue size buffer =
+    cond (numbersOk queue size buffer)
+    (record { answer = 0; queue = emptyQueue queue size buffer })
+    (record { answer = 1; queue = emptyQueue 0 0 0 })
+
+-- a number asked of an accepted record
+unfoldable pub askedOf : RxQueue → ℕ → Asked
+askedOf q n = cond (recordOk q) (record { answer = 0; value = n }) (record { answer = 1; value = 0 })
+
+-- the tail value, and the tail register at 0x2000 + 4 x queue
+abbrev pub tailValueOf : RxQueue → Asked
+tailValueOf q = askedOf q (tailOf q)
+
+abbrev pub tailRegisterOf : RxQueue → Asked
+tailRegisterOf q = askedOf q (0x2000 + 4 * q .queue)
