@@ -13,7 +13,7 @@ use lib.Bits.{bitAnd, bitOr, and-mask, or-shifted-r}
 use lib.ListN.{length, getD}
 use lib.Pow.{pow-pos, pow-mono, pow-add, shr-shr, split, high, shl-exact, mod-pow-add}
 use mir.Facts.{and-yes, or-yes}
-use Rattle.field.specs.Field.{fieldOf, placed, replaced, Part, part, wordOf, rising, apart, free, bit}
+use Rattle.field.specs.Field.{fieldOf, placed, replaced, Part, part, wordOf, rising, endOf, apart, free, bit}
 
 gap : {a b : ℕ} → a ≤ b → b ≡ a + (b - a)
 gap h = omega arith
@@ -127,6 +127,19 @@ free-from at k (p ∷ ps) j lo t u l =
 pub reads-free : (at k : ℕ) (ps : List Part) → T (rising 0 ps) → T (free at k ps) → fieldOf at k (wordOf ps) ≡ 0
 reads-free at k ps t u =
     ap (λ (x : ℕ). fieldOf at k x) (sym (zero-add (wordOf ps))) ∙ free-from at k ps 0 0 t u (pow-pos 0) ∙ none-above at k (pow-pos at)
+
+-- a table's word is below the first position past its last field
+below-from : (ps : List Part) (j lo : ℕ) → T (rising j ps) → lo < 2 ^ j → lo + wordOf ps < 2 ^ endOf j ps
+below-from [] j lo t l = rw add-zero l
+below-from (p ∷ ps) j lo t l =
+    let a : ℕ = p .at in
+    let k : ℕ = p .width in
+    let s = and-yes (leb j a) (rising (a + k) ps) t in
+    let r = below-from ps (a + k) (placed a k (p .value) + lo) (s .1) (grown a k (p .value) (lt-of-lt-of-le l (pow-mono (leb→le j a (s .0))))) in
+    omega (arith, r)
+
+pub word-below : (ps : List Part) → T (rising 0 ps) → wordOf ps < 2 ^ endOf 0 ps
+word-below ps t = rw zero-add at (below-from ps 0 0 t (pow-pos 0))
 
 -- ---- the code's way: shifted parts joined by `|`
 

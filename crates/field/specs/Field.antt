@@ -36,6 +36,11 @@ abbrev pub rising : ℕ → List Part → Bool
 rising j [] = true
 rising j (p ∷ ps) = leb j (p .at) && rising (p .at + p .width) ps
 
+-- the first position past a table's last field
+abbrev pub endOf : ℕ → List Part → ℕ
+endOf j [] = j
+endOf j (p ∷ ps) = endOf (p .at + p .width) ps
+
 -- two fields share no bit
 abbrev pub apart : ℕ → ℕ → ℕ → ℕ → Bool
 apart at k at′ k′ = leb (at′ + k′) at || leb (k + at) at′
