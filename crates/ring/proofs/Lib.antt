@@ -1,3 +1,5 @@
 pub mod Steps
 pub mod Stores
 pub mod Runs
+pub mod Rows
+pub mod Lines
