@@ -21,3 +21,23 @@ toolchain() {
     command -v rt >/dev/null 2>&1 || fail "rt is missing: the Rattle toolchain has to be installed first (wanted: $(cat toolchain.txt))"
     [ "$(rt version)" = "$(cat toolchain.txt)" ] || fail "the toolchain is '$(rt version)', and toolchain.txt asks for '$(cat toolchain.txt)'"
 }
+
+# proved NAME: run a proved program, which is an x86-64 one; on another processor the toolchain's own emulator and loader run it
+proved() {
+    if [ "$(uname -m)" = x86_64 ]; then
+        "target/bin/$1"
+        return
+    fi
+    local kit
+    kit=$(dirname "$(dirname "$(readlink -f "$(command -v rt)")")")/on/$(uname -m)/toolchain
+    "$kit/bin/qemu-x86_64" "$kit/lib/ld-linux-x86-64.so.2" --library-path "$kit/lib" "target/bin/$1"
+}
+
+# build_second: the second program, at target/second, where it is missing or older than its source
+build_second() {
+    if [ ! -x target/second ] || [ -n "$(find second -name '*.rs' -newer target/second)" ]; then
+        need rustc rustc
+        mkdir -p target
+        rustc -O --edition 2021 second/main.rs -o target/second || fail "the second program does not compile"
+    fi
+}
