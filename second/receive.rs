@@ -1,0 +1,139 @@
+//! Receiving: post, take and the write-back of Section 2.1.2.2.
+
+use crate::record::{bits, judge_buffer, judge_length, refuse, unless_broken};
+use crate::record::{Direction, Judged, Record};
+
+/// A packet is 1 to 5 slots.
+pub const MOST_SLOTS: usize = 5;
+
+pub const FIELDS: usize = 17;
+
+/// The fields of a packet's last slot, in the order in which they print.
+pub const FIELD_NAMES: [&str; FIELDS] = [
+    "VLAN",
+    "HASH",
+    "DD",
+    "EOP",
+    "L2TAG1P",
+    "L3L4P",
+    "CRCP",
+    "UMBCAST",
+    "FLTSTAT",
+    "LPBK",
+    "IPV6EXADD",
+    "INT_UDP_0",
+    "IPE",
+    "L4E",
+    "OVERSIZE",
+    "PTYPE",
+    "FAMILY",
+];
+
+#[derive(Clone, Copy, Debug, Default, PartialEq, Eq)]
+pub struct Packet {
+    pub count: u64,
+    pub total: u64,
+    pub addresses: [u64; MOST_SLOTS],
+    pub lengths: [u64; MOST_SLOTS],
+    pub fields: [u64; FIELDS],
+}
+
+fn judge_lent(record: &Record, ring: usize, list: usize) -> Judged<()> {
+    record.judge(Direction::Receive)?;
+    judge_length(ring, 2 * record.size, ["ring too short", "ring too long"])?;
+    judge_length(list, record.size, ["list too short", "list too long"])
+}
+
+pub fn post(record: Record, ring: &mut [u64], list: &mut [u64], address: u64) -> Judged<Record> {
+    judge_lent(&record, ring.len(), list.len())?;
+    judge_buffer(address, record.limit)?;
+    unless_broken(record.posted == record.size - 1, 3, "all but one slot posted")?;
+    let tail = record.tail() as usize;
+    ring[2 * tail] = address;
+    ring[2 * tail + 1] = 0;
+    list[tail] = address;
+    Ok(Record { posted: record.posted + 1, ..record })
+}
+
+pub fn take(record: Record, ring: &[u64], list: &[u64]) -> Judged<(Record, Packet)> {
+    judge_lent(&record, ring.len(), list.len())?;
+    let mut packet = Packet::default();
+    for place in 0..MOST_SLOTS {
+        if place as u64 >= record.posted {
+            return refuse(4, if place == 0 { "posted 0" } else { "past the posted slots" });
+        }
+        let slot = record.slot(place as u64);
+        let word1 = ring[2 * slot + 1];
+        judge_slot(place, word1, record.limit)?;
+        packet.addresses[place] = list[slot];
+        packet.lengths[place] = length_of(word1);
+        packet.total += length_of(word1);
+        packet.count += 1;
+        if end_of_packet(word1) {
+            packet.fields = fields(ring[2 * slot], word1);
+            return Ok((record.moved_on(packet.count), packet));
+        }
+    }
+    unreachable!("a fifth slot without EOP is refused")
+}
+
+/// One slot met by take, `place` counted from 0 at the packet's first.
+fn judge_slot(place: usize, word1: u64, buffer: u64) -> Judged<()> {
+    let (done, eop, length) = (bits(word1, 0, 0) == 1, end_of_packet(word1), length_of(word1));
+    if !done {
+        return refuse(4, if place == 0 { "DD clear in a first slot" } else { "DD clear later" });
+    }
+    unless_broken(length == 0 && !eop && place == 0, 5, "0 first without EOP")?;
+    unless_broken(length == 0 && !eop, 5, "0 later without EOP")?;
+    unless_broken(length == 0 && place == 0, 5, "0 first with EOP")?;
+    unless_broken(length > buffer && place == 0, 5, "above the buffer size first")?;
+    unless_broken(length > buffer, 5, "above the buffer size later")?;
+    unless_broken(place == MOST_SLOTS - 1 && !eop, 5, "fifth slot without EOP")
+}
+
+fn end_of_packet(word1: u64) -> bool {
+    bits(word1, 1, 1) == 1
+}
+
+fn length_of(word1: u64) -> u64 {
+    bits(word1, 51, 38)
+}
+
+/// The fields named in document 01, of the last slot's two words.
+pub fn fields(word0: u64, word1: u64) -> [u64; FIELDS] {
+    let status = bits(word1, 18, 0);
+    let error = bits(word1, 26, 19);
+    let packet_type = bits(word1, 37, 30);
+    let tag_present = bits(status, 2, 2);
+    let filter_status = bits(status, 13, 12);
+    [
+        if tag_present == 1 { bits(word0, 31, 16) } else { 0 },
+        if filter_status == 0b11 { bits(word0, 63, 32) } else { 0 },
+        bits(status, 0, 0),
+        bits(status, 1, 1),
+        tag_present,
+        bits(status, 3, 3),
+        bits(status, 4, 4),
+        bits(status, 10, 9),
+        filter_status,
+        bits(status, 14, 14),
+        bits(status, 15, 15),
+        bits(status, 18, 18),
+        bits(error, 3, 3),
+        bits(error, 4, 4),
+        bits(error, 6, 6),
+        packet_type,
+        family(packet_type),
+    ]
+}
+
+/// The type family as it prints: 0 unknown, 1 plain MAC, 2 ARP, 3 IPv4, 4 IPv6.
+pub fn family(packet_type: u64) -> u64 {
+    match packet_type {
+        1 => 1,
+        11 => 2,
+        22..=24 | 26..=28 => 3,
+        88..=90 | 92..=94 => 4,
+        _ => 0,
+    }
+}
