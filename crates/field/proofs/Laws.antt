@@ -1,11 +1,11 @@
 -- The laws of bit fields, over position and width: what is placed reads back, what stands beside it reads as before, and the word of a table reads back field by field.
 -- Assumes nothing.
-use mathlib.Core.Path.{_≡_, refl, sym, ap, ap₂, _∙_, subst}
+use mathlib.Core.Path.{_≡_, refl, sym, ap, _∙_, subst}
 use mathlib.Core.Bool.{Bool, true, false}
 use mathlib.Core.Logic.{⊎-elim}
 use mathlib.Core.List.{List, [], _∷_}
 use Prim.Native.Nat.{ℕ, zero, suc, _+_, _-_, _*_, _/_, _%_, _^_, _≤_, _<_}
-use native.Mathlib.Nat.{div-eq-of-lt, mul-one, one-mul, add-comm, add-zero, zero-add, add-assoc, add-mul, zero-mul, mul-assoc, mul-comm, mod-lt, mod-eq-of-lt, add-mul-mod-self-right, add-mul-div-right, lt-of-lt-of-le, le-of-suc-le-suc, not-suc-le-zero}
+use native.Mathlib.Nat.{div-eq-of-lt, mul-one, one-mul, add-comm, add-zero, zero-add, zero-mul, mul-assoc, mul-comm, mod-lt, mod-eq-of-lt, add-mul-mod-self-right, add-mul-div-right, lt-of-lt-of-le, le-of-suc-le-suc, not-suc-le-zero}
 use native.Mathlib.Omega.{arith}
 use lib.Arith.{digits-lt}
 use lib.Dec.{T, lit<, leb, ltb, ltb→lt, leb→le, eqb}

@@ -3,7 +3,6 @@
 use Prim.Native.Nat.{ℕ}
 use mathlib.Core.Path.{_≡_, refl}
 use mathlib.Core.Bool.{true, false}
-use Rattle.interrupt.specs.declared.Enable.{Enable}
 use Rattle.interrupt.specs.declared.Enable.the-variants.{On, Leave}
 use Rattle.interrupt.specs.declared.Request.{Request}
 use Rattle.interrupt.specs.declared.Answer.{Answer}

@@ -3,26 +3,31 @@
 use Prim.Native.Nat.{ℕ, _+_, _*_, _≤_, _<_}
 use mathlib.Core.Path.{_≡_}
 use mathlib.Core.Bool.{Bool, _&&_, cond}
-use lib.Dec.{leb, ltb, eqb}
+use lib.Dec.{eqb}
 use Rattle.rules.specs.Rules.{inSteps}
 use Rattle.ring.specs.Slots.{slotAt, tailAt}
+use Rattle.ring.specs.Sizes.{mostQueue, leastSize, mostSize, queueOk, placeOk}
 use Rattle.receive.specs.declared.RxQueue.{RxQueue}
 use Rattle.receive.specs.declared.Fresh.{Fresh}
 use Rattle.receive.specs.declared.Asked.{Asked}
 
--- the table's lines: queue number 0 to 3, size and buffer size between their bounds in their steps
-abbrev pub mostQueue : ℕ
-mostQueue = 3
+-- buffer size 1,024 to 16,256 in steps of 128
+abbrev pub leastBuffer : ℕ
+leastBuffer = 1024
 
-abbrev pub mostSize : ℕ
-mostSize = 4096
+abbrev pub mostBuffer : ℕ
+mostBuffer = 16256
 
+abbrev pub bufferStep : ℕ
+bufferStep = 128
+
+-- the table's lines
 abbrev pub numbersOk : ℕ → ℕ → ℕ → Bool
-numbersOk queue size buffer = leb queue mostQueue && (inSteps 32 mostSize 32 size && inSteps 1024 16256 128 buffer)
+numbersOk queue size buffer = queueOk queue size && inSteps leastBuffer mostBuffer bufferStep buffer
 
 -- an accepted record: these lines, head below size, posted at most size - 1
 unfoldable pub recordOk : RxQueue → Bool
-recordOk q = numbersOk (q .queue) (q .size) (q .buffer) && (ltb (q .head) (q .size) && ltb (q .posted) (q .size))
+recordOk q = numbersOk (q .queue) (q .size) (q .buffer) && placeOk (q .size) (q .head) (q .posted)
 
 -- and lent slices of exactly the size's lengths: a ring and a companion list so long
 unfoldable pub lentOk : RxQueue → ℕ → ℕ → Bool
@@ -31,10 +36,10 @@ lentOk q ring list = recordOk q && (eqb ring (2 * q .size) && eqb list (q .size)
 -- what an accepted record keeps, as facts
 pub record Kept (q : RxQueue) : Type 0 where
   pub queue-high : q .queue ≤ mostQueue
-  pub size-low : 32 ≤ q .size
+  pub size-low : leastSize ≤ q .size
   pub size-high : q .size ≤ mostSize
-  pub buffer-low : 1024 ≤ q .buffer
-  pub buffer-high : q .buffer ≤ 16256
+  pub buffer-low : leastBuffer ≤ q .buffer
+  pub buffer-high : q .buffer ≤ mostBuffer
   pub head-below : q .head < q .size
   pub posted-below : q .posted < q .size
 

@@ -1,6 +1,6 @@
 -- The posted slots of a receive queue as a list, the oldest first. The ring has two numbers a slot, the companion list one address.
 -- Assumes nothing.
-use Prim.Native.Nat.{ℕ, _+_, _*_}
+use Prim.Native.Nat.{ℕ}
 use mathlib.Core.List.{List, [], _∷_}
 use lib.ListN.{getD}
 use Rattle.ring.specs.Slots.{run}

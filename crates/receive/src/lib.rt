@@ -1,9 +1,12 @@
-// The receive queue of the driver core: fresh queues, the tail, post and take.
-ghost use mathlib.Core.Path.{_≡_};
-ghost use Rattle.receive.specs.Queue.{freshOf, tailValueOf, tailRegisterOf};
-ghost use Rattle.receive.specs.Post.{PostedAs};
-ghost use Rattle.receive.specs.Take.{takeOf};
+// The receive queue of the driver core: fresh queues and the tail (queue), post, take.
 use writeback::WriteBack;
+
+mod post;
+mod queue;
+mod take;
+
+// A packet is 1 to 5 slots.
+const PACKET_SLOTS: usize = 5;
 
 pub struct RxQueue {
     pub queue: usize,
@@ -33,8 +36,8 @@ pub struct Posted {
 pub struct Packet {
     pub count: usize,
     pub total: usize,
-    pub addresses: [u64; 5],
-    pub lengths: [usize; 5],
+    pub addresses: [u64; PACKET_SLOTS],
+    pub lengths: [usize; PACKET_SLOTS],
     pub last: WriteBack,
 }
 

@@ -1,6 +1,6 @@
 -- What an accepted queue number, size, head and posted are.
 -- Assumes nothing.
-use Prim.Native.Nat.{ℕ}
+use Prim.Native.Nat.{ℕ, _≤_}
 use mathlib.Core.Path.{_≡_}
 use mathlib.Core.Bool.{true}
 use borrow.Author.Tests.{ltb-true, leb-true}
@@ -8,6 +8,10 @@ use lib.Dec.{leb, ltb}
 use Rattle.rules.specs.Rules.{inSteps}
 use Rattle.rules.proofs.Tests.{both, steps-is}
 use Rattle.ring.specs.Sizes.{mostQueue, leastSize, mostSize, sizeStep, queueOk, placeOk, Placed}
+
+-- a size within its line is not small
+pub size-least : (queue size : ℕ) → queueOk queue size ≡ true → leastSize ≤ size
+size-least queue size e = steps-is leastSize mostSize sizeStep size (both (leb queue mostQueue) (inSteps leastSize mostSize sizeStep size) e .1) .least
 
 pub placed : (queue size head posted : ℕ) → queueOk queue size ≡ true → placeOk size head posted ≡ true → Placed queue size head posted
 placed queue size head posted e f =

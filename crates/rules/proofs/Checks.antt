@@ -1,15 +1,13 @@
 -- The checks of a call in their order: a number is answered exactly if its cause holds and no earlier one does.
 -- Assumes nothing.
 use Prim.Native.Nat.{ℕ, zero, suc, _<_}
-use mathlib.Core.Path.{_≡_, refl, sym, _∙_}
-use mathlib.Core.Bool.{Bool, true, false, not, _&&_, cond, false≢true, true≢false}
+use mathlib.Core.Path.{_≡_, refl, sym}
+use mathlib.Core.Bool.{Bool, true, false, not, _&&_, cond}
 use mathlib.Core.List.{List, [], _∷_}
 use native.Mathlib.Omega.{arith}
-use borrow.Author.Tests.{eqb-false, not-true}
+use borrow.Author.Tests.{eqb-false}
 use lib.Dec.{T, eqb}
-use lib.ListN.{length, getD}
-use Rattle.rules.specs.Rules.{Check, _when_, answerOf, nth, refusing, Answers}
-use Rattle.rules.proofs.Tests.{both}
+use Rattle.rules.specs.Rules.{Check, answerOf, nth, refusing, Answers}
 
 -- a check that comes after one whose cause does not hold
 later : (c : Check) (cs : List Check) (n i : ℕ) → c .cause ≡ false → Answers cs n i → Answers (c ∷ cs) n (suc i)

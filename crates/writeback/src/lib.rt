@@ -34,9 +34,9 @@ pub struct WriteBack {
 }
 
 // The places of the bits and fields, as divisors: a field is what is left of a quotient.
-const DD: u64 = 1;
+pub const DD: u64 = 1;
 
-const EOP: u64 = 2;
+pub const EOP: u64 = 2;
 
 const L2TAG1P: u64 = 4;
 
@@ -62,7 +62,10 @@ const OVERSIZE: u64 = 33554432;
 
 const PTYPE: u64 = 1073741824;
 
-const LENGTH: u64 = 274877906944;
+pub const LENGTH: u64 = 274877906944;
+
+// A length has 14 bits.
+pub const LENGTHS: u64 = 16384;
 
 const L2TAG1: u64 = 65536;
 
@@ -124,7 +127,7 @@ pub fn read(word0: u64, word1: u64) -> WriteBack
         l4e: word1 / L4E % 2 == 1,
         oversize: word1 / OVERSIZE % 2 == 1,
         ptype,
-        length: (word1 / LENGTH % 16384) as usize,
+        length: (word1 / LENGTH % LENGTHS) as usize,
         family,
     }
 }

@@ -1,3 +1,5 @@
+-- `family_of` meets its contract: each arm of the match is a run of numbers of one family.
+-- Assumes nothing.
 use Rattle.writeback.proofs.Families.{in-run}
 use Rattle.writeback.specs.WriteBack.{familyOf}
 use Rattle.writeback.specs.declared.Family.the-variants.{Ipv4, Ipv6, Unknown}

@@ -1,3 +1,5 @@
+-- `hash_of` meets its contract: the hash, where FLTSTAT is 11b.
+-- Assumes nothing.
 use borrow.Author.Tests.{eq-eqb, ne-eqb}
 use borrow.Author.Needs.{needs}
 use Rattle.writeback.proofs.hash_of.Statement.{statement}

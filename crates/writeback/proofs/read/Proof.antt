@@ -1,3 +1,5 @@
+-- `read` meets its contract: each field is a quotient's remainder.
+-- Assumes nothing.
 use Rattle.writeback.specs.WriteBack.{writeBackOf}
 use borrow.Author.Needs.{needs}
 use Rattle.writeback.proofs.read.Statement.{statement}

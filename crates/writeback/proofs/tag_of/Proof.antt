@@ -1,3 +1,5 @@
+-- `tag_of` meets its contract: the tag, where L2TAG1P is set.
+-- Assumes nothing.
 use borrow.Author.Tests.{eq-eqb, ne-eqb}
 use borrow.Author.Needs.{needs}
 use Rattle.writeback.proofs.tag_of.Statement.{statement}

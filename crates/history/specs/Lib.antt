@@ -1,0 +1,5 @@
+pub mod World
+pub mod History
+pub mod Late
+pub mod Demand
+pub mod Stale

@@ -1,0 +1,8 @@
+pub mod Laws
+pub mod Packets
+pub mod Walk
+pub mod Outcomes
+pub mod Keeps
+pub mod Posts
+pub mod Takes
+pub mod Causes

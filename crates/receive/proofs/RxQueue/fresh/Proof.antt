@@ -1,0 +1,21 @@
+-- `RxQueue::fresh` meets its contract: the numbers' test decides.
+-- Assumes nothing.
+use mathlib.Core.Path.{sym}
+use Rattle.receive.specs.Queue.{freshOf}
+use borrow.Author.Needs.{needs}
+use Rattle.receive.proofs.RxQueue.fresh.Statement.{statement}
+use Rattle.receive.proofs.RxQueue.fresh.Tie as tie
+
+numbers-ok-requires : tie.Need-numbers-ok-requires
+numbers-ok-requires c κs = search needs
+
+returns : tie.Need-returns
+unfolding freshOf
+returns c = rw (sym (c .before .numbers-ok .ensures), c .if1 .taken)
+
+returns-2 : tie.Need-returns-2
+unfolding freshOf
+returns-2 c = rw (sym (c .before .numbers-ok .ensures), c .if1 .left)
+
+pub fresh-spec : {M : Type 1} → statement M
+fresh-spec = tie.close (tie.spec numbers-ok-requires returns returns-2)

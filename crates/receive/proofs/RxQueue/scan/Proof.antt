@@ -1,0 +1,136 @@
+-- `RxQueue::scan` meets its contract. The loop's invariant: k slots are seen, none the last of its packet (`Walked`); each way out is one law of it.
+-- Assumes nothing.
+use mathlib.Core.Path.{sym, _∙_}
+use borrow.Author.Tests.{eq-eqb, ne-eqb}
+use Prim.Native.Nat.{_-_}
+use borrow.Author.Needs.{needs}
+use Rattle.receive.specs.Take.{padded}
+use Rattle.receive.proofs.Walk.{Walked, first, at-end, at-clear, at-wrong, next, complete}
+use Rattle.receive.proofs.RxQueue.scan.Statement.{statement}
+use Rattle.receive.proofs.RxQueue.scan.Tie as tie
+
+abbrev Inv-loop : tie.InvT-loop
+Inv-loop self ring list addresses₀ lengths₀ total₀ k₀ addresses lengths total k = Walked self ring list addresses lengths total k
+
+abbrev μ-loop : tie.MeasureT-loop
+μ-loop self ring list addresses₀ lengths₀ total₀ k₀ addresses lengths total k = self .posted - k
+
+loop-holds : tie.Need-loop-holds Inv-loop μ-loop
+unfolding padded
+loop-holds c = first _ _ _
+
+slot-requires : tie.Need-slot-requires Inv-loop μ-loop
+slot-requires c κs = search needs
+
+mul-first : tie.Need-mul-first Inv-loop μ-loop
+mul-first c = search needs
+
+add-word1 : tie.Need-add-word1 Inv-loop μ-loop
+add-word1 c = search needs
+
+mul-word1 : tie.Need-mul-word1 Inv-loop μ-loop
+mul-word1 c = search needs
+
+shared-slice-read-word1 : tie.Need-shared-slice-read-word1 Inv-loop μ-loop
+shared-slice-read-word1 c = search needs
+
+refused-requires : tie.Need-refused-requires Inv-loop μ-loop
+refused-requires c κs = search needs
+
+returns : tie.Need-returns Inv-loop μ-loop
+returns c = rw (at-clear _ _ _ _ _ _ _ (c .before .before .before .before .before .before .loop .inv) (c .before .before .before .before .if1 .taken) _ (c .before .before .before .slot .ensures .is) (ne-eqb _ _ (c .before .if2 .taken))) (c .refused .ensures)
+
+slot-ok-requires : tie.Need-slot-ok-requires Inv-loop μ-loop
+slot-ok-requires c κs = search needs
+
+mul-addresses : tie.Need-mul-addresses Inv-loop μ-loop
+mul-addresses c = search needs
+
+shared-slice-read-addresses : tie.Need-shared-slice-read-addresses Inv-loop μ-loop
+shared-slice-read-addresses c = search needs
+
+mul-addresses-2 : tie.Need-mul-addresses-2 Inv-loop μ-loop
+mul-addresses-2 c = search needs
+
+array-write-addresses : tie.Need-array-write-addresses Inv-loop μ-loop
+array-write-addresses c = search needs
+
+mul-lengths : tie.Need-mul-lengths Inv-loop μ-loop
+mul-lengths c = search needs
+
+array-write-lengths : tie.Need-array-write-lengths Inv-loop μ-loop
+array-write-lengths c = search needs
+
+add-total : tie.Need-add-total Inv-loop μ-loop
+add-total c = search needs
+
+add-k : tie.Need-add-k Inv-loop μ-loop
+add-k c = search needs
+
+mul-read : tie.Need-mul-read Inv-loop μ-loop
+mul-read c = search needs
+
+shared-slice-read-read : tie.Need-shared-slice-read-read Inv-loop μ-loop
+shared-slice-read-read c = search needs
+
+read-requires : tie.Need-read-requires Inv-loop μ-loop
+read-requires c κs = search needs
+
+handed-requires : tie.Need-handed-requires Inv-loop μ-loop
+handed-requires c κs = search needs
+
+returns-2 : tie.Need-returns-2 Inv-loop μ-loop
+returns-2 c = c .handed .ensures ∙ rw (c .before .read .ensures) (sym (complete _ _ _ _ _ _ _ (c .before .before .before .before .before .before .before .before .before .before .before .before .loop .inv) (c .before .before .before .before .before .before .before .before .before .before .if1 .taken) _ (c .before .before .before .before .before .before .before .before .before .slot .ensures .is) (eq-eqb _ _ (c .before .before .before .before .before .before .before .if2 .left)) (sym (c .before .before .before .before .before .before .slot-ok .ensures) ∙ c .before .before .before .before .before .if3 .taken) (eq-eqb _ _ (c .before .before .before .if4 .taken))))
+
+loop-less : tie.Need-loop-less Inv-loop μ-loop
+loop-less c = search needs
+
+loop-again : tie.Need-loop-again Inv-loop μ-loop
+loop-again c = next _ _ _ _ _ _ _ (c .before .before .before .before .before .before .before .before .before .loop .inv) (c .before .before .before .before .before .before .before .if1 .taken) _ (c .before .before .before .before .before .before .slot .ensures .is) (eq-eqb _ _ (c .before .before .before .before .if2 .left)) (sym (c .before .before .before .slot-ok .ensures) ∙ c .before .before .if3 .taken) (ne-eqb _ _ (c .if4 .left))
+
+refused-requires-2 : tie.Need-refused-requires-2 Inv-loop μ-loop
+refused-requires-2 c κs = search needs
+
+returns-3 : tie.Need-returns-3 Inv-loop μ-loop
+returns-3 c = rw (at-wrong _ _ _ _ _ _ _ (c .before .before .before .before .before .before .before .before .loop .inv) (c .before .before .before .before .before .before .if1 .taken) _ (c .before .before .before .before .before .slot .ensures .is) (eq-eqb _ _ (c .before .before .before .if2 .left)) (sym (c .before .before .slot-ok .ensures) ∙ c .before .if3 .left)) (c .refused2 .ensures)
+
+refused-requires-3 : tie.Need-refused-requires-3 Inv-loop μ-loop
+refused-requires-3 c κs = search needs
+
+returns-4 : tie.Need-returns-4 Inv-loop μ-loop
+returns-4 c = rw (at-end _ _ _ _ _ _ _ (c .before .before .before .loop .inv) (c .before .if1 .left)) (c .refused3 .ensures)
+
+pub scan-spec : {M : Type 1} → statement M
+scan-spec =
+    tie.close
+    (tie.spec
+    Inv-loop
+    μ-loop
+    loop-holds
+    slot-requires
+    mul-first
+    add-word1
+    mul-word1
+    shared-slice-read-word1
+    refused-requires
+    returns
+    slot-ok-requires
+    mul-addresses
+    shared-slice-read-addresses
+    mul-addresses-2
+    array-write-addresses
+    mul-lengths
+    array-write-lengths
+    add-total
+    add-k
+    mul-read
+    shared-slice-read-read
+    read-requires
+    handed-requires
+    returns-2
+    loop-less
+    loop-again
+    refused-requires-2
+    returns-3
+    refused-requires-3
+    returns-4)

@@ -1,0 +1,197 @@
+-- The scan slot by slot, as the code walks the posted slots: what is known after k of them, and what the next one makes of it.
+-- Assumes nothing.
+use Prim.Native.Nat.{ℕ, suc, _+_, _-_, _*_, _/_, _^_, _≤_, _<_}
+use mathlib.Core.Path.{_≡_, refl, sym, ap, _∙_}
+use mathlib.Core.Bool.{Bool, true, false, not, _&&_, _||_, cond}
+use mathlib.Core.List.{List, [], _∷_, _++_, map}
+use native.Mathlib.Nat.{add-zero, sub-zero, add-suc, mod-lt}
+use native.Mathlib.Numerals.{add-one}
+use native.Mathlib.Omega.{arith}
+use borrow.Author.Tests.{ltb-true}
+use lib.Dec.{ltb}
+use lib.ListN.{length, set, length-map}
+use Rattle.rules.proofs.Tests.{both}
+use Rattle.ring.specs.Slots.{run}
+use Rattle.ring.proofs.Runs.{length-run, run-snoc}
+use Rattle.writeback.specs.WriteBack.{Words, dd, eop, lengthOf, writeBackOf}
+use Rattle.receive.specs.declared.RxQueue.{RxQueue}
+use Rattle.receive.specs.Queue.{slotOf}
+use Rattle.receive.specs.Slots.{Slot, slotIn, postedSlots}
+use Rattle.receive.specs.Take.{packetSlots, lengthOk, endOk, Look, refuse, whole, andThen, scan, sum, padded, addressesOf, lengthsOf, packetOf, advanced, takeBy}
+use Rattle.receive.proofs.Packets.{padded-more, sum-more, map-more, last-more, after, after-more, after-refuse, after-whole}
+
+-- ---- one slot of a scan
+
+module _ (buffer k : ℕ) (s : Slot) (rest : List Slot) where
+  abbrev allowed : Bool
+  allowed = lengthOk buffer k (s .words) && endOk k (s .words)
+
+  pub not-done : dd (s .words) ≡ false → scan buffer k (s ∷ rest) ≡ refuse 4
+  unfolding scan
+  not-done d = rw d
+
+  pub not-allowed : dd (s .words) ≡ true → allowed ≡ false → scan buffer k (s ∷ rest) ≡ refuse 5
+  unfolding scan
+  not-allowed d a = rw d (go (lengthOk buffer k (s .words)) (endOk k (s .words)) a)
+    where
+      go : (l e : Bool) → l && e ≡ false → cond (not l) (refuse 5) (cond (not e) (refuse 5) (cond (eop (s .words)) (whole (s ∷ [])) (andThen s (scan buffer (suc k) rest)))) ≡ refuse 5
+      go false e z = refl
+      go true false z = refl
+      go true true z = let y : _≡_ {A = ℕ} 0 1 = cc in absurd (omega arith)
+
+  pub allowed-last : dd (s .words) ≡ true → allowed ≡ true → eop (s .words) ≡ true → scan buffer k (s ∷ rest) ≡ whole (s ∷ [])
+  unfolding scan
+  allowed-last d a e = let b = both (lengthOk buffer k (s .words)) (endOk k (s .words)) a in rw (d, b .0, b .1, e)
+
+  pub allowed-on : dd (s .words) ≡ true → allowed ≡ true → eop (s .words) ≡ false → scan buffer k (s ∷ rest) ≡ andThen s (scan buffer (suc k) rest)
+  unfolding scan
+  allowed-on d a e = let b = both (lengthOk buffer k (s .words)) (endOk k (s .words)) a in rw (d, b .0, b .1, e)
+
+  -- a slot that is allowed and is not the last is not the fifth
+  pub not-fifth : allowed ≡ true → eop (s .words) ≡ false → suc k < packetSlots
+  unfolding endOk
+  not-fifth a e =
+      let b = both (lengthOk buffer k (s .words)) (eop (s .words) || ltb (suc k) packetSlots) a .1 in
+      ltb-true (suc k) packetSlots (rw e at b)
+
+module _ (q : RxQueue) (ring list : List ℕ) where
+  -- the slot at distance k from head; the first k slots, and those after them
+  abbrev pub slotNo : ℕ → Slot
+  slotNo k = slotIn ring list (slotOf q k)
+
+  abbrev pub seen : ℕ → List Slot
+  seen k = run (slotIn ring list) (q .size) (q .head) k
+
+  abbrev pub rest : ℕ → List Slot
+  rest k = run (slotIn ring list) (q .size) (q .head + k) (q .posted - k)
+
+  abbrev pub scanned : Look
+  scanned = scan (q .buffer) 0 (postedSlots q ring list)
+
+  rest-more : (k : ℕ) → k < q .posted → rest k ≡ slotNo k ∷ rest (suc k)
+  unfolding run
+  rest-more k h = let e : q .posted - k ≡ suc (q .posted - suc k) = omega arith in rw (e, add-suc (q .head) k)
+
+  rest-none : (k : ℕ) → q .posted ≤ k → rest k ≡ []
+  unfolding run
+  rest-none k h = let e : q .posted - k ≡ 0 = omega arith in rw e
+
+  -- k slots of the packet are seen, none of which is its last: the places and the total are theirs
+  pub record Walked (addresses lengths : List ℕ) (total k : ℕ) : Type 0 where
+    pub few : k < packetSlots
+    pub within : k ≤ q .posted
+    pub so-far : scanned ≡ after (seen k) (scan (q .buffer) k (rest k))
+    pub addresses-are : addresses ≡ padded (addressesOf (seen k))
+    pub lengths-are : lengths ≡ padded (lengthsOf (seen k))
+    pub total-is : total ≡ sum (lengthsOf (seen k))
+    pub total-small : total ≤ 16383 * k
+
+  pub first : Walked (padded []) (padded []) 0 0
+  unfolding run postedSlots after sum
+  first =
+      record {
+        few = omega arith;
+        within = omega arith;
+        so-far = rw (add-zero, sub-zero);
+        addresses-are = refl;
+        lengths-are = refl;
+        total-is = refl;
+        total-small = omega arith;
+      }
+
+-- the two rules of a slot look at its word 1 alone
+word1-only : (buffer k : ℕ) (x : Words) → lengthOk buffer k (record { word0 = 0; word1 = x .word1 }) && endOk k (record { word0 = 0; word1 = x .word1 }) ≡ lengthOk buffer k x && endOk k x
+unfolding lengthOk endOk
+word1-only buffer k x = refl
+
+module _ (q : RxQueue) (ring list addresses lengths : List ℕ) (total k : ℕ) (w : Walked q ring list addresses lengths total k) where
+  -- past the posted ones
+  pub at-end : q .posted ≤ k → scanned q ring list ≡ refuse 4
+  unfolding scan
+  at-end h = w .so-far ∙ rw (rest-none q ring list k h) (after-refuse _ _)
+
+  -- the slot at distance k, which the code reads at its number
+  module _ (h : k < q .posted) (at : ℕ) (is : at ≡ slotOf q k) where
+    abbrev here : Slot
+    here = slotIn ring list at
+
+    abbrev size : ℕ
+    size = lengthOf (here .words)
+
+    abbrev ok : Bool
+    ok = lengthOk (q .buffer) k (record { word0 = 0; word1 = here .words .word1 }) && endOk k (record { word0 = 0; word1 = here .words .word1 })
+
+    allow : {b : Bool} → ok ≡ b → lengthOk (q .buffer) k (here .words) && endOk k (here .words) ≡ b
+    allow e = sym (word1-only (q .buffer) k (here .words)) ∙ e
+
+    from-here : (l : Look) → scan (q .buffer) k (here ∷ rest q ring list (suc k)) ≡ l → scanned q ring list ≡ after (seen q ring list k) l
+    from-here l e =
+        w .so-far
+        ∙ rw (rest-more q ring list k h)
+        (ap (λ (j : ℕ). after (seen q ring list k) (scan (q .buffer) k (slotIn ring list j ∷ rest q ring list (suc k)))) (sym is)
+        ∙ ap (after (seen q ring list k)) e)
+
+    pub at-clear : dd (here .words) ≡ false → scanned q ring list ≡ refuse 4
+    at-clear d = from-here _ (not-done _ _ here _ d) ∙ after-refuse _ _
+
+    pub at-wrong : dd (here .words) ≡ true → ok ≡ false → scanned q ring list ≡ refuse 5
+    at-wrong d a = from-here _ (not-allowed _ _ here _ d (allow a)) ∙ after-refuse _ _
+
+    more : seen q ring list (k + 1) ≡ seen q ring list k ++ here ∷ []
+    more =
+        rw (add-one k)
+        (run-snoc (slotIn ring list) (q .size) (q .head) k
+        ∙ ap (λ (j : ℕ). seen q ring list k ++ slotIn ring list j ∷ []) (sym is))
+
+    long : length (seen q ring list k) ≡ k
+    long = length-run (slotIn ring list) (q .size) (q .head) k
+
+    -- what is told of a slot, put at its place
+    places-more : (f : Slot → ℕ) (ns : List ℕ) → ns ≡ padded (map f (seen q ring list k)) → set ns k (f here) ≡ padded (map f (seen q ring list (k + 1)))
+    places-more f ns e =
+        let n : length (map f (seen q ring list k)) ≡ k = length-map (seen q ring list k) f ∙ long in
+        rw (e, more, map-more)
+        (ap (λ (i : ℕ). set (padded (map f (seen q ring list k))) i (f here)) (sym n)
+        ∙ padded-more (map f (seen q ring list k)) (f here) (rw n (w .few)))
+
+    addresses-more : set addresses k (here .address) ≡ padded (addressesOf (seen q ring list (k + 1)))
+    addresses-more = places-more (λ (s : Slot). s .address) addresses (w .addresses-are)
+
+    lengths-more : set lengths k size ≡ padded (lengthsOf (seen q ring list (k + 1)))
+    lengths-more = places-more (λ (s : Slot). lengthOf (s .words)) lengths (w .lengths-are)
+
+    total-more : total + size ≡ sum (lengthsOf (seen q ring list (k + 1)))
+    total-more = rw (w .total-is, more, map-more) (sym (sum-more _ _))
+
+    -- the packet goes on
+    pub next : dd (here .words) ≡ true → ok ≡ true → eop (here .words) ≡ false
+        → Walked q ring list (set addresses k (here .address)) (set lengths k size) (total + size) (k + 1)
+    next d a e =
+        record {
+          few = omega (arith, not-fifth (q .buffer) k here [] (allow a) e);
+          within = omega arith;
+          so-far = from-here _ (allowed-on _ _ here _ d (allow a) e) ∙ rw (more, add-one k) (sym (after-more _ _ _));
+          addresses-are = addresses-more;
+          lengths-are = lengths-more;
+          total-is = total-more;
+          total-small = omega (arith, w .total-small, mod-lt (here .words .word1 / 2 ^ 38) {m = 2 ^ 14} (omega arith));
+        }
+
+    -- the packet is complete
+    pub complete : dd (here .words) ≡ true → ok ≡ true → eop (here .words) ≡ true
+        → takeBy (scanned q ring list) q
+        ≡ record {
+          answer = 0;
+          queue = advanced q (k + 1);
+          packet = record {
+            count = k + 1;
+            total = total + size;
+            addresses = set addresses k (here .address);
+            lengths = set lengths k size;
+            last = writeBackOf (here .words);
+          };
+        }
+    unfolding takeBy packetOf
+    complete d a e =
+        rw (from-here _ (allowed-last _ _ here _ d (allow a) e) ∙ after-whole _ _ ∙ ap whole (sym more))
+        (rw (addresses-more, lengths-more, total-more, length-run) (rw (more, last-more)))

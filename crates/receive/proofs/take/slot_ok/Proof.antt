@@ -1,0 +1,17 @@
+-- `slot_ok` meets its contract: the two rules of the definition, joined.
+-- Assumes nothing.
+use native.Mathlib.Numerals.{add-one}
+use Rattle.receive.specs.Take.{lengthOk, endOk}
+use borrow.Author.Needs.{needs}
+use Rattle.receive.proofs.take.slot_ok.Statement.{statement}
+use Rattle.receive.proofs.take.slot_ok.Tie as tie
+
+add-result : tie.Need-add-result
+add-result c = search needs
+
+returns : tie.Need-returns
+unfolding lengthOk endOk
+returns c = rw (add-one (c .args .k))
+
+pub slot-ok-spec : {M : Type 1} → statement M
+slot-ok-spec = tie.close (tie.spec add-result returns)

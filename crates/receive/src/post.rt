@@ -1,0 +1,63 @@
+// Post: the answer first, then the slot at the tail.
+ghost use mathlib.Core.Path.{_≡_};
+ghost use lib.ListN.{length};
+ghost use Rattle.receive.specs.Queue.{Kept, Lent};
+ghost use Rattle.receive.specs.Post.{postAnswer, oneMore, PostedAs};
+ghost use Rattle.receive.specs.Steps.{PutAs};
+use crate::Posted;
+use crate::RxQueue;
+
+impl RxQueue {
+    fn post_answer(self, ring: usize, list: usize, address: u64) -> u8
+        ensures { λ r. ⌜ r ≡ postAnswer self ring list address ⌝ }
+    {
+        if self.lent_ok(ring, list) {
+            if rules::address_wrong(address, self.buffer as u64) {
+                2
+            } else {
+                if self.posted == self.size - 1 { 3 } else { 0 }
+            }
+        } else {
+            1
+        }
+    }
+
+    // The words of the slot at the tail, and the address beside them.
+    fn put(self, ring: &mut [u64], list: &mut [u64], address: u64)
+        requires { ⌜ Lent self (length (now ring)) (length (now list)) ⌝ }
+        ensures { λ r. ⌜ PutAs self (now (ring .entry)) (now (list .entry)) address (now (ring .exit)) (now (list .exit)) ⌝ }
+    {
+        let tail = ring::slot(self.head, self.size, self.posted);
+        ring[2 * tail] = address;
+        ring[2 * tail + 1] = 0;
+        list[tail] = address;
+    }
+
+    fn one_more(self) -> RxQueue
+        requires { ⌜ Kept self ⌝ }
+        ensures { λ r. ⌜ r ≡ oneMore self ⌝ }
+    {
+        RxQueue {
+            queue: self.queue,
+            size: self.size,
+            head: self.head,
+            posted: self.posted + 1,
+            buffer: self.buffer,
+        }
+    }
+
+    pub fn post(self, ring: &mut [u64], list: &mut [u64], address: u64) -> Posted
+        ensures { λ r. ⌜ PostedAs self (now (ring .entry)) (now (list .entry)) address r (now (ring .exit)) (now (list .exit)) ⌝ }
+    {
+        let answer = self.post_answer(ring.len(), list.len(), address);
+        if answer != 0 {
+            return Posted {
+                answer,
+                queue: self,
+            };
+        }
+        let queue = self.one_more();
+        self.put(ring, list, address);
+        Posted { answer, queue }
+    }
+}

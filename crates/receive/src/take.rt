@@ -1,0 +1,116 @@
+// Take: the posted slots from head upward, until one completes the packet or refuses.
+ghost use mathlib.Core.Path.{_≡_};
+ghost use mathlib.Core.Bool.{_&&_};
+ghost use Prim.Native.Nat.{_<_};
+ghost use lib.ListN.{length};
+ghost use Rattle.ring.specs.Sizes.{mostSize};
+ghost use Rattle.receive.specs.Queue.{Lent};
+ghost use Rattle.receive.specs.Slots.{postedSlots};
+ghost use Rattle.receive.specs.Take.{Look, lengthOk, endOk, advanced, scan, takeBy, takeOf};
+ghost use Rattle.receive.specs.Steps.{Handed};
+use crate::PACKET_SLOTS;
+use crate::Packet;
+use crate::RxQueue;
+use crate::Taken;
+use writeback::DD;
+use writeback::EOP;
+use writeback::LENGTH;
+use writeback::LENGTHS;
+
+// What the device's rules allow in a slot with k slots of its packet before it.
+fn slot_ok(buffer: usize, k: usize, word1: u64) -> bool
+    requires { ⌜ k < mostSize ⌝ }
+    ensures { λ r. ⌜ r ≡ (lengthOk buffer k (record { word0 = 0; word1 = word1 }) && endOk k (record { word0 = 0; word1 = word1 })) ⌝ }
+{
+    let length = (word1 / LENGTH % LENGTHS) as usize;
+    let last = word1 / EOP % 2 == 1;
+    ((length <= buffer) & ((1 <= length) | (last & (1 <= k)))) & (last | (k + 1 < PACKET_SLOTS))
+}
+
+impl RxQueue {
+    // A refusal: the record as it came, and zeros.
+    fn refused(self, answer: u8) -> Taken
+        ensures { λ r. ⌜ r ≡ takeBy (Look.refuse answer) self ⌝ }
+    {
+        let last = writeback::read(0, 0);
+        Taken {
+            answer,
+            queue: self,
+            packet: Packet {
+                count: 0,
+                total: 0,
+                addresses: [0; PACKET_SLOTS],
+                lengths: [0; PACKET_SLOTS],
+                last,
+            },
+        }
+    }
+
+    // A packet handed up, and the record without its slots.
+    fn handed(self, packet: Packet) -> Taken
+        requires { ⌜ Handed self (packet .count) ⌝ }
+        ensures { λ r. ⌜ r ≡ record { answer = 0; queue = advanced self (packet .count); packet = packet } ⌝ }
+    {
+        let count = packet.count;
+        let head = ring::slot(self.head, self.size, count);
+        Taken {
+            answer: 0,
+            queue: RxQueue {
+                queue: self.queue,
+                size: self.size,
+                head,
+                posted: self.posted - count,
+                buffer: self.buffer,
+            },
+            packet,
+        }
+    }
+
+    fn scan(self, ring: &[u64], list: &[u64]) -> Taken
+        requires { ⌜ Lent self (length (now ring)) (length (now list)) ⌝ }
+        ensures { λ r. ⌜ r ≡ takeBy (scan (self .buffer) 0 (postedSlots self (now (ring .entry)) (now (list .entry)))) self ⌝ }
+    {
+        let mut addresses = [0u64; PACKET_SLOTS];
+        let mut lengths = [0usize; PACKET_SLOTS];
+        let mut total: usize = 0;
+        let mut k: usize = 0;
+        while k < self.posted {
+            let at = ring::slot(self.head, self.size, k);
+            let first = 2 * at;
+            let word1 = ring[first + 1];
+            if word1 / DD % 2 != 1 {
+                return self.refused(4);
+            }
+            if slot_ok(self.buffer, k, word1) {
+                let length = (word1 / LENGTH % LENGTHS) as usize;
+                addresses[k] = list[at];
+                lengths[k] = length;
+                total += length;
+                k += 1;
+                if word1 / EOP % 2 == 1 {
+                    let last = writeback::read(ring[first], word1);
+                    return self.handed(Packet {
+                        count: k,
+                        total,
+                        addresses,
+                        lengths,
+                        last,
+                    });
+                }
+            } else {
+                return self.refused(5);
+            }
+        }
+        self.refused(4)
+    }
+
+    pub fn take(self, ring: &[u64], list: &[u64]) -> Taken
+        ensures { λ r. ⌜ r ≡ takeOf self (now (ring .entry)) (now (list .entry)) ⌝ }
+    {
+        if self.lent_ok(ring.len(), list.len()) {
+            self.scan(ring, list)
+        } else {
+            self.refused(1)
+        }
+    }
+}
