@@ -1,0 +1,4 @@
+pub mod Folds
+pub mod Reading
+pub mod Written
+pub mod RoundTrip

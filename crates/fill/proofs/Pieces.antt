@@ -1,0 +1,82 @@
+-- The pieces of a send as a row of slots: those before the last and the last; and a segmented send's context descriptor before them.
+-- Assumes nothing.
+use Prim.Native.Nat.{ℕ, suc, _+_, _-_, _*_, _%_, _^_, _≤_, _<_}
+use mathlib.Core.Path.{_≡_, sym, ap, ap₂, _∙_}
+use mathlib.Core.Bool.{true, false}
+use mathlib.Core.List.{List, [], _∷_}
+use native.Mathlib.Nat.{add-zero, mod-eq-of-lt}
+use native.Mathlib.Numerals.{add-one}
+use native.Mathlib.Omega.{arith}
+use borrow.Author.Tests.{eq-eqb, ne-eqb}
+use lib.Bits.{bitAnd, bitOr}
+use lib.ListN.{length, getD}
+use Rattle.field.specs.Field.{wordOf}
+use Rattle.ring.specs.Slots.{slotAt}
+use Rattle.ring.specs.Memory.{store, storeRun}
+use Rattle.ring.proofs.Rows.{row-more}
+use Rattle.descriptor.specs.Words.{dataWord, readAt, lengthLine}
+use Rattle.offload.specs.declared.Request.{Request}
+use Rattle.offload.specs.Request.{slotsOf, dataOf}
+use Rattle.fill.specs.Descriptors.{pieceNumbers, contextNumbers, descriptor}
+use Rattle.fill.specs.Room.{leadingNumbers}
+use Rattle.fill.proofs.Rows.{row-agree, row-first}
+use Rattle.fill.proofs.Words.{joined, with-length}
+use Rattle.fill.proofs.Places.{context-first, piece-at}
+
+-- one piece more before the last, as the loop goes on
+pub put-next : (alike : ℕ) (addresses lengths : List ℕ) (size start : ℕ) (ring : List ℕ) (i : ℕ) → readAt lengthLine alike ≡ 0 → {slot : ℕ} {ring₁ ring₂ : List ℕ}
+    → ring₁ ≡ storeRun 2 size (leadingNumbers alike addresses lengths) ring start i
+    → slot ≡ slotAt start size i
+    → ring₂ ≡ store 2 ring₁ slot (getD addresses i 0 ∷ bitOr alike (bitAnd (getD lengths i 0) (2 ^ 14 - 1) * 2 ^ 34 % 2 ^ 64) ∷ [])
+    → ring₂ ≡ storeRun 2 size (leadingNumbers alike addresses lengths) ring start (i + 1)
+put-next alike addresses lengths size start ring i z {slot} {ring₁} {ring₂} r s p =
+    let f = leadingNumbers alike addresses lengths in
+    let word : bitOr alike (bitAnd (getD lengths i 0) (2 ^ 14 - 1) * 2 ^ 34 % 2 ^ 64) ≡ alike + wordOf (lengthLine (getD lengths i 0) ∷ []) = joined 34 14 (getD lengths i 0) alike tt z ∙ omega arith in
+    p
+    ∙ ap (λ (w : ℕ). store 2 ring₁ slot (getD addresses i 0 ∷ w ∷ [])) word
+    ∙ ap₂ (λ (m : List ℕ) (t : ℕ). store 2 m t (f i)) r s
+    ∙ sym (row-more 2 size f ring start i)
+
+module _ (request : Request) (addresses lengths : List ℕ) (size start : ℕ) where
+  -- a piece before the last one
+  leading-is : (alike k : ℕ) → alike ≡ dataWord (dataOf request 0 false) → k < length lengths - 1 → leadingNumbers alike addresses lengths k ≡ pieceNumbers request addresses lengths k
+  leading-is alike k a l =
+      rw (a, with-length request false (getD lengths k 0), ne-eqb (k + 1) (length lengths) (λ e. omega arith))
+
+  -- the pieces before the last, then the last
+  pub put-last : (ring : List ℕ) → 1 ≤ length lengths → {alike slot word : ℕ} {ring₁ ring₂ : List ℕ} → alike ≡ dataWord (dataOf request 0 false)
+      → ring₁ ≡ storeRun 2 size (leadingNumbers alike addresses lengths) ring start (length lengths - 1)
+      → slot ≡ slotAt start size (length lengths - 1)
+      → word ≡ dataWord (dataOf request (getD lengths (length lengths - 1) 0) true)
+      → ring₂ ≡ store 2 ring₁ slot (getD addresses (length lengths - 1) 0 ∷ word ∷ [])
+      → ring₂ ≡ storeRun 2 size (pieceNumbers request addresses lengths) ring start (length lengths)
+  put-last ring some {alike} {slot} {word} {ring₁} {ring₂} a r s w p =
+      let n : ℕ = length lengths - 1 in
+      let e : n + 1 ≡ length lengths = omega arith in
+      let f = pieceNumbers request addresses lengths in
+      let first : ring₁ ≡ storeRun 2 size f ring start n = r ∙ row-agree 2 size (leadingNumbers alike addresses lengths) f ring start n (λ k l. leading-is alike k a l) in
+      let end : (getD addresses n 0 ∷ word ∷ []) ≡ f n = rw (w, eq-eqb _ _ e) in
+      p ∙ ap (store 2 ring₁ slot) end ∙ ap₂ (λ (m : List ℕ) (t : ℕ). store 2 m t (f n)) first s ∙ sym (row-more 2 size f ring start n) ∙ ap (storeRun 2 size f ring start) e
+
+  -- the context descriptor, then the pieces
+  pub put-segmented : (ring : List ℕ) → request .segmented ≡ true → start < size → {first word : ℕ} {ring₁ ring₂ : List ℕ}
+      → first ≡ slotAt start size 1
+      → (0 ∷ word ∷ []) ≡ contextNumbers request addresses lengths
+      → ring₁ ≡ store 2 ring start (0 ∷ word ∷ [])
+      → ring₂ ≡ storeRun 2 size (pieceNumbers request addresses lengths) ring₁ first (length lengths)
+      → ring₂ ≡ storeRun 2 size (descriptor request addresses lengths) ring start (slotsOf request (length lengths))
+  put-segmented ring t l {first} {word} {ring₁} {ring₂} s w p r =
+      let f = descriptor request addresses lengths in
+      let here : slotAt start size 0 ≡ start = ap (λ (k : ℕ). k % size) (add-zero start) ∙ mod-eq-of-lt l in
+      let one : ring₁ ≡ store 2 ring (slotAt start size 0) (f 0) = p ∙ ap₂ (store 2 ring) (sym here) (w ∙ sym (context-first request addresses lengths t)) in
+      let later : (k : ℕ) → k < length lengths → pieceNumbers request addresses lengths k ≡ f (suc k) = λ k _. sym (piece-at request addresses lengths k) ∙ ap f {x = slotsOf request k} {y = suc k} (rw t (add-one k)) in
+      r ∙ rw (one, s) (row-agree 2 size (pieceNumbers request addresses lengths) (λ k. f (suc k)) _ (slotAt start size 1) (length lengths) later ∙ sym (row-first 2 size f ring start (length lengths)) ∙ ap (storeRun 2 size f ring start) (rw t (sym (add-one (length lengths)))))
+
+  -- no context descriptor
+  pub put-plain : (ring : List ℕ) → request .segmented ≡ false → {ring₁ : List ℕ}
+      → ring₁ ≡ storeRun 2 size (pieceNumbers request addresses lengths) ring start (length lengths)
+      → ring₁ ≡ storeRun 2 size (descriptor request addresses lengths) ring start (slotsOf request (length lengths))
+  put-plain ring t r =
+      let f = descriptor request addresses lengths in
+      let same : (k : ℕ) → k < length lengths → pieceNumbers request addresses lengths k ≡ f k = λ k _. sym (piece-at request addresses lengths k) ∙ ap f {x = slotsOf request k} {y = k} (rw t) in
+      r ∙ row-agree 2 size _ _ ring start (length lengths) same ∙ rw t

@@ -1,0 +1,22 @@
+-- What the descriptors of a send need to be stored: facts that an accepted send has shown.
+-- Assumes nothing.
+use Prim.Native.Nat.{ℕ, _+_, _*_, _≤_, _<_}
+use mathlib.Core.Path.{_≡_}
+use mathlib.Core.List.{List, [], _∷_}
+use lib.ListN.{length, getD}
+use Rattle.field.specs.Field.{wordOf}
+use Rattle.descriptor.specs.Words.{lengthLine}
+use Rattle.ring.specs.Slots.{mostSlots}
+
+-- a ring of a size, a slot of it to begin at, and so many slots, less than a lap, to take
+pub record Room (ring addresses lengths : List ℕ) (size start slots : ℕ) : Type 0 where
+  pub ring-long : length ring ≡ 2 * size
+  pub size-high : size ≤ mostSlots
+  pub start-below : start < size
+  pub paired : length addresses ≡ length lengths
+  pub some : 1 ≤ length lengths
+  pub fewer : slots < size
+
+-- a piece before the last one: word 1 is what is alike on all of them, with the piece's length
+abbrev pub leadingNumbers : ℕ → List ℕ → List ℕ → ℕ → List ℕ
+leadingNumbers alike addresses lengths i = getD addresses i 0 ∷ (alike + wordOf (lengthLine (getD lengths i 0) ∷ [])) ∷ []

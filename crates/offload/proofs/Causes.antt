@@ -1,0 +1,43 @@
+-- Why a send is refused: the causes of 6, 2, 7 and 8 are exact, and 8 is no matter of a plain send.
+-- Assumes nothing.
+use Prim.Native.Nat.{ℕ, _≤_}
+use mathlib.Core.Path.{_≡_, refl}
+use mathlib.Core.Bool.{Bool, true, false, not, _&&_, cond}
+use mathlib.Core.List.{List, _++_, [], _∷_}
+use lib.Dec.{T, eqb}
+use Rattle.rules.specs.Rules.{Check, answerOf, refusing, Answers}
+use Rattle.rules.proofs.Checks.{has-cause, is-answered}
+use Rattle.segments.specs.Touch.{mostTouched, touched}
+use Rattle.segments.proofs.Meaning.{touched-few}
+use Rattle.offload.specs.declared.Request.{Request}
+use Rattle.offload.specs.Offload.{piecesOk, isOver, sendChecks}
+use Rattle.offload.proofs.Laws.{plain-few}
+
+module _ (addresses lengths : List ℕ) (maximum : ℕ) (q : Request) where
+  -- a number is answered exactly if its cause holds and no earlier one does
+  pub refused-for : (n : ℕ) → answerOf (sendChecks addresses lengths maximum q) ≡ n → (n ≡ 0 → ⊥) → (i : ℕ) × Answers (sendChecks addresses lengths maximum q) n i
+  refused-for = has-cause (sendChecks addresses lengths maximum q)
+
+  pub refuses : (n i : ℕ) → Answers (sendChecks addresses lengths maximum q) n i → answerOf (sendChecks addresses lengths maximum q) ≡ n
+  refuses = is-answered (sendChecks addresses lengths maximum q)
+
+  -- a plain send is never refused with 8
+  pub plain-not-over : q .segmented ≡ false → isOver lengths q ≡ false
+  plain-not-over e = rw e
+
+  -- nor need it be: whatever its segments were, none would touch more than 8 pieces
+  pub plain-touches : piecesOk addresses lengths maximum q ≡ true → q .segmented ≡ false → (header mss tlen k : ℕ) → touched lengths header mss tlen k ≤ mostTouched
+  plain-touches p e header mss tlen k =
+      touched-few lengths header mss tlen (plain-few addresses lengths maximum q p e) k
+
+-- checks that follow others are asked where those have passed
+pub asked-next : (cs ds : List Check) → T (refusing cs) → answerOf (cs ++ ds) ≡ cond (eqb (answerOf cs) 0) (answerOf ds) (answerOf cs)
+asked-next [] ds t = refl
+asked-next (c ∷ cs) ds t = go (c .cause) (eqb (c .answer) 0) refl t (λ u. asked-next cs ds u)
+  where
+    go : (b z : Bool) → eqb (c .answer) 0 ≡ z → T (not z && refusing cs)
+        → (T (refusing cs) → answerOf (cs ++ ds) ≡ cond (eqb (answerOf cs) 0) (answerOf ds) (answerOf cs))
+        → cond b (c .answer) (answerOf (cs ++ ds)) ≡ cond (eqb (cond b (c .answer) (answerOf cs)) 0) (answerOf ds) (cond b (c .answer) (answerOf cs))
+    go b true e u r = absurd u
+    go true false e u r = rw e
+    go false false e u r = r u

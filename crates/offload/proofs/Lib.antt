@@ -1,0 +1,5 @@
+pub mod Laws
+pub mod Accepted
+pub mod Back
+pub mod Causes
+pub mod Examples

@@ -1,0 +1,144 @@
+-- What a send must keep, and the numbers that it is refused with where it does not (01, "Sending"; 6, 2, 7 and 8 of "Numbers that come back").
+-- Assumes nothing.
+use Prim.Native.Nat.{ℕ, _+_, _^_, _<_}
+use mathlib.Core.Path.{_≡_}
+use mathlib.Core.Bool.{Bool, true, not, _&&_, _||_, cond}
+use mathlib.Core.List.{List, [], _∷_}
+use lib.Dec.{leb, eqb}
+use lib.ListN.{length, getD}
+use Rattle.rules.specs.Rules.{within, inSteps, allBelow, Check, _when_}
+use Rattle.rules.specs.Address.{addressWrong}
+use Rattle.segments.specs.Touch.{total, headerWithin, isCrowded, Checked}
+use Rattle.offload.specs.declared.IpKind.{IpKind}
+use Rattle.offload.specs.declared.IpKind.the-variants.{None as NoIp, Ipv6, Ipv4, Ipv4Checksum}
+use Rattle.offload.specs.declared.L4Kind.{L4Kind}
+use Rattle.offload.specs.declared.L4Kind.the-variants.{None as NoL4, Tcp, Sctp, Udp}
+use Rattle.offload.specs.declared.Request.{Request}
+use Rattle.offload.specs.Request.{isNoIp, isNoL4, isTcp, hasChecksum, headerOf}
+
+-- the limits
+abbrev pub mostLength : ℕ
+mostLength = 16383
+
+abbrev pub plainPieces : ℕ
+plainPieces = 8
+
+abbrev pub mostPieces : ℕ
+mostPieces = 4094
+
+abbrev pub leastTotal : ℕ
+leastTotal = 17
+
+abbrev pub mostHeader : ℕ
+mostHeader = 512
+
+abbrev pub mostTlen : ℕ
+mostTlen = 262143
+
+abbrev pub leastMss : ℕ
+leastMss = 88
+
+abbrev pub mostTag : ℕ
+mostTag = 65535
+
+-- every total of pieces that are few and short enough is below this
+abbrev pub sumLimit : ℕ
+sumLimit = 2 ^ 32
+
+-- ---- 6
+
+-- plain: 1 to 8 pieces; segmented: 1 to 4,094
+abbrev pub mostPiecesOf : Bool → ℕ
+mostPiecesOf segmented = cond segmented mostPieces plainPieces
+
+-- each length is 1 to 16,383
+abbrev pub lengthsOk : List ℕ → Bool
+lengthsOk lengths = allBelow (length lengths) (λ i. within 1 mostLength (getD lengths i 0))
+
+-- plain: total 17 to the maximum frame; segmented: total = header + TLEN
+abbrev pub totalOk : ℕ → ℕ → Request → Bool
+totalOk sum maximum q = cond (q .segmented) (eqb sum (headerOf q + q .tlen)) (within leastTotal maximum sum)
+
+unfoldable pub piecesOk : List ℕ → List ℕ → ℕ → Request → Bool
+piecesOk addresses lengths maximum q =
+    eqb (length addresses) (length lengths)
+    && within 1 (mostPiecesOf (q .segmented)) (length lengths)
+    && lengthsOk lengths
+    && totalOk (total lengths) maximum q
+
+-- ---- 2
+
+-- no piece has a wrong address
+unfoldable pub addressesOk : List ℕ → List ℕ → Bool
+addressesOk addresses lengths = allBelow (length lengths) (λ i. not (addressWrong (getD addresses i 0) (getD lengths i 0)))
+
+-- ---- 7
+
+-- IPv4 20 to 60, IPv6 40 to 508, multiples of 4
+abbrev pub ipLengthOk : IpKind → ℕ → Bool
+ipLengthOk NoIp n = eqb n 0
+ipLengthOk Ipv6 n = inSteps 40 508 4 n
+ipLengthOk Ipv4 n = inSteps 20 60 4 n
+ipLengthOk Ipv4Checksum n = inSteps 20 60 4 n
+
+-- TCP 20 to 60 in fours, UDP 8, SCTP 12, none 0
+abbrev pub l4LengthOk : L4Kind → ℕ → Bool
+l4LengthOk NoL4 n = eqb n 0
+l4LengthOk Tcp n = inSteps 20 60 4 n
+l4LengthOk Sctp n = eqb n 12
+l4LengthOk Udp n = eqb n 8
+
+-- IP none: L4 none, all three lengths 0, not segmented; otherwise MAC 14 to 254 and even, and each length right for its kind
+unfoldable pub headersOk : Request → Bool
+headersOk q =
+    cond (isNoIp (q .ip))
+    (isNoL4 (q .l4) && eqb (q .«mac_length») 0 && eqb (q .«ip_length») 0 && eqb (q .«l4_length») 0 && not (q .segmented))
+    (inSteps 14 254 2 (q .«mac_length») && ipLengthOk (q .ip) (q .«ip_length») && l4LengthOk (q .l4) (q .«l4_length»))
+
+-- a tag has 16 bits, and it is 0 if no VLAN tag is asked
+abbrev pub tagOk : Request → Bool
+tagOk q = leb (q .tag) mostTag && (q .vlan || eqb (q .tag) 0)
+
+-- MSS from 88 to maximum frame - header
+abbrev pub mssOk : ℕ → ℕ → ℕ → Bool
+mssOk mss header maximum = leb leastMss mss && leb (mss + header) maximum
+
+-- segmented: TCP, IPv6 or IPv4 with checksum, header at most 512 and ending within the first three pieces, TLEN 1 to 262,143
+abbrev pub segmentedOk : List ℕ → ℕ → ℕ → Request → Bool
+segmentedOk lengths maximum header q =
+    isTcp (q .l4)
+    && hasChecksum (q .ip)
+    && leb header mostHeader
+    && headerWithin lengths header
+    && within 1 mostTlen (q .tlen)
+    && mssOk (q .mss) header maximum
+
+-- not segmented: MSS and TLEN are 0
+unfoldable pub segmentationOk : List ℕ → ℕ → ℕ → Request → Bool
+segmentationOk lengths maximum header q =
+    cond (q .segmented) (segmentedOk lengths maximum header q) (eqb (q .mss) 0 && eqb (q .tlen) 0)
+
+-- the header is at most the total besides
+unfoldable pub requestOk : List ℕ → ℕ → Request → Bool
+requestOk lengths maximum q =
+    headersOk q && (leb (headerOf q) (total lengths) && tagOk q && segmentationOk lengths maximum (headerOf q) q)
+
+-- ---- 8
+
+-- some segment touches more than 8 pieces; a plain send has no segments
+abbrev pub isOver : List ℕ → Request → Bool
+isOver lengths q = q .segmented && isCrowded lengths (headerOf q) (q .mss) (q .tlen)
+
+-- what the checks before have shown
+pub record Segmentable (lengths : List ℕ) (q : Request) : Type 0 where
+  pub header-fits : headerOf q < 2 ^ 64
+  pub checked : q .segmented ≡ true → Checked lengths (headerOf q) (q .mss) (q .tlen)
+
+-- the checks of a send on its own, in their order
+abbrev pub sendChecks : List ℕ → List ℕ → ℕ → Request → List Check
+sendChecks addresses lengths maximum q =
+    6 when not (piecesOk addresses lengths maximum q)
+    ∷ 2 when not (addressesOk addresses lengths)
+    ∷ 7 when not (requestOk lengths maximum q)
+    ∷ 8 when isOver lengths q
+    ∷ []

@@ -1,0 +1,39 @@
+-- Each line of the table, computed from the definitions.
+-- Assumes nothing.
+use mathlib.Core.Path.{refl}
+use Rattle.rules.specs.Rules.{allBelow}
+use Rattle.writeback.specs.WriteBack.{familyOf, writeBackOf}
+use Rattle.ring.specs.Slots.{run}
+use Rattle.receive.specs.Queue as rx
+use Rattle.receive.specs.Slots.{postedSlots}
+use Rattle.receive.specs.Post.{postAnswer}
+use Rattle.receive.specs.Take.{lengthOk, endOk, andThen, scan, look, sum, padded, lastWords, packetOf, takeBy, takeOf}
+use Rattle.interrupt.specs.Interrupt.{interruptOf}
+use Rattle.segments.specs.Touch.{countBelow, someBelow, startOf, isCrowded}
+use Rattle.offload.specs.Offload.{piecesOk, addressesOk, headersOk, segmentationOk, requestOk}
+use Rattle.transmit.specs.Queue as tx
+use Rattle.transmit.specs.Send.{sendAnswer}
+use Rattle.paper.specs.Paper.{Paper, post, posts, full, written, took, afterTake}
+
+pub examples : Paper
+unfolding allBelow familyOf writeBackOf run rx.recordOk rx.lentOk rx.freshOf rx.askedOf postedSlots postAnswer lengthOk endOk andThen scan look sum padded lastWords packetOf takeBy takeOf interruptOf countBelow someBelow startOf isCrowded piecesOk addressesOk headersOk segmentationOk requestOk tx.recordOk tx.lentOk tx.freshOf sendAnswer post posts full written took afterTake
+examples =
+    record {
+      plain-60 = refl;
+      tcp-1000 = refl;
+      context = refl;
+      write-back = refl;
+      on-clear = refl;
+      on-clear-100 = refl;
+      on-clear-8160 = refl;
+      on-clear-8162 = refl;
+      leave-trigger = refl;
+      tail-31 = refl;
+      one-more = refl;
+      two-slots = (refl, refl, refl, refl);
+      tail-0 = refl;
+      segment-0 = refl;
+      segment-1 = refl;
+      crowded-14 = refl;
+      passes-7 = refl;
+    }

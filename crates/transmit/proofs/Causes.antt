@@ -1,0 +1,99 @@
+-- Exact causes: each number is answered exactly if its cause holds and no earlier one does (`Answers` of rules, both ways). A send
+-- refused with 3 is accepted once there are slots enough, and 8 is no matter of a plain send.
+-- Assumes nothing.
+use Prim.Native.Nat.{ℕ, zero, suc, _≤_, _<_}
+use mathlib.Core.Path.{_≡_, refl}
+use mathlib.Core.Logic.{_≢_}
+use mathlib.Core.Bool.{Bool, true, false, not, cond}
+use mathlib.Core.List.{List, [], _∷_}
+use native.Mathlib.Omega.{arith}
+use borrow.Author.Tests.{le-ltb, not-false}
+use lib.ListN.{length}
+use Rattle.rules.specs.Rules.{Check, _when_, answerOf, nth, Answers}
+use Rattle.rules.proofs.Checks.{has-cause, is-answered, passed, passes}
+use Rattle.segments.specs.Touch.{mostTouched, touched}
+use Rattle.offload.specs.declared.Request.{Request}
+use Rattle.offload.specs.Request.{slotsOf}
+use Rattle.offload.proofs.Causes.{plain-touches}
+use Rattle.transmit.specs.declared.TxQueue.{TxQueue}
+use Rattle.transmit.specs.declared.Fresh.{Fresh}
+use Rattle.transmit.specs.declared.Asked.{Asked}
+use Rattle.transmit.specs.Queue.{numbersOk, recordOk, emptyQueue, freshOf, askedOf}
+use Rattle.transmit.specs.Send.{freeSlots, checks, sendAnswer}
+use Rattle.transmit.specs.Reclaim.{reclaimChecks, reclaimAnswer}
+use Rattle.transmit.proofs.Laws.{lent-same}
+
+-- ---- one check alone: fresh, and a number asked of a record, answer 1 exactly if a line is broken
+
+pub fresh-answer : (queue size frame : ℕ) → freshOf queue size frame .answer ≡ answerOf (1 when not (numbersOk queue size frame) ∷ [])
+unfolding freshOf
+fresh-answer queue size frame = either (numbersOk queue size frame) (emptyQueue queue size frame) (emptyQueue 0 0 0)
+  where
+    either : (b : Bool) (q z : TxQueue) → cond {A = Fresh} b (record { answer = 0; queue = q }) (record { answer = 1; queue = z }) .answer ≡ answerOf (1 when not b ∷ [])
+    either true q z = refl
+    either false q z = refl
+
+pub asked-answer : (q : TxQueue) (n : ℕ) → askedOf q n .answer ≡ answerOf (1 when not (recordOk q) ∷ [])
+unfolding askedOf
+asked-answer q n = either (recordOk q)
+  where
+    either : (b : Bool) → cond {A = Asked} b (record { answer = 0; value = n }) (record { answer = 1; value = 0 }) .answer ≡ answerOf (1 when not b ∷ [])
+    either true = refl
+    either false = refl
+
+-- ---- reclaim: 1, 4, 5, 4
+
+module _ (q : TxQueue) (ring tokens counts : List ℕ) (n : ℕ) where
+  pub reclaim-cause : reclaimAnswer q ring tokens counts ≡ n → n ≢ 0 → (i : ℕ) × Answers (reclaimChecks q ring tokens counts) n i
+  unfolding reclaimAnswer
+  reclaim-cause e ne = has-cause (reclaimChecks q ring tokens counts) n e ne
+
+  pub reclaim-answered : (i : ℕ) → Answers (reclaimChecks q ring tokens counts) n i → reclaimAnswer q ring tokens counts ≡ n
+  unfolding reclaimAnswer
+  reclaim-answered i a = is-answered (reclaimChecks q ring tokens counts) n i a
+
+-- ---- send: 1, 6, 2, 7, 8, 3, of a ring, tokens and counts so long
+
+module _ (q : TxQueue) (ring tokens counts : ℕ) (addresses lengths : List ℕ) (request : Request) where
+  abbrev its-checks : List Check
+  its-checks = checks q ring tokens counts addresses lengths request
+
+  pub send-cause : (n : ℕ) → sendAnswer q ring tokens counts addresses lengths request ≡ n → n ≢ 0 → (i : ℕ) × Answers its-checks n i
+  unfolding sendAnswer
+  send-cause n e ne = has-cause its-checks n e ne
+
+  pub send-answered : (n i : ℕ) → Answers its-checks n i → sendAnswer q ring tokens counts addresses lengths request ≡ n
+  unfolding sendAnswer
+  send-answered n i a = is-answered its-checks n i a
+
+  -- no segment of an accepted plain send would touch more than 8 pieces
+  pub plain-never-over : sendAnswer q ring tokens counts addresses lengths request ≡ 0 → request .segmented ≡ false → (header mss tlen k : ℕ) → touched lengths header mss tlen k ≤ mostTouched
+  unfolding sendAnswer
+  plain-never-over e f = plain-touches addresses lengths (q .frame) request (not-false _ (passed its-checks tt e 1)) f
+
+  -- retry: refused with 3, it gets 0 on any accepted record of the same size and frame whose free slots reach what it needs
+  module _ (q′ : TxQueue) (ok : recordOk q′ ≡ true) (same-size : q′ .size ≡ q .size) (same-frame : q′ .frame ≡ q .frame) (room : slotsOf request (length lengths) ≤ freeSlots q′) where
+    all-pass : ((j : ℕ) → j < 5 → nth its-checks j .cause ≡ false) → (j : ℕ) → nth (checks q′ ring tokens counts addresses lengths request) j .cause ≡ false
+    all-pass before zero = rw (lent-same q q′ ring tokens counts ok same-size (not-false _ (before 0 (omega arith))))
+    all-pass before (suc zero) = rw same-frame (before 1 (omega arith))
+    all-pass before (suc (suc zero)) = before 2 (omega arith)
+    all-pass before (suc (suc (suc zero))) = rw same-frame (before 3 (omega arith))
+    all-pass before (suc (suc (suc (suc zero)))) = before 4 (omega arith)
+    all-pass before (suc (suc (suc (suc (suc zero))))) = le-ltb _ _ room
+    all-pass before (suc (suc (suc (suc (suc (suc j)))))) = refl
+
+    -- no check but the last answers 3
+    by-last : (i : ℕ) → Answers its-checks 3 i → (j : ℕ) → j < 5 → nth its-checks j .cause ≡ false
+    by-last zero a = absurd (omega (arith, a .number-is))
+    by-last (suc zero) a = absurd (omega (arith, a .number-is))
+    by-last (suc (suc zero)) a = absurd (omega (arith, a .number-is))
+    by-last (suc (suc (suc zero))) a = absurd (omega (arith, a .number-is))
+    by-last (suc (suc (suc (suc zero)))) a = absurd (omega (arith, a .number-is))
+    by-last (suc (suc (suc (suc (suc zero))))) a = a .none-before
+    by-last (suc (suc (suc (suc (suc (suc i)))))) a = absurd (omega (arith, a .within-list))
+
+    pub retry : sendAnswer q ring tokens counts addresses lengths request ≡ 3 → sendAnswer q′ ring tokens counts addresses lengths request ≡ 0
+    unfolding sendAnswer
+    retry e =
+        let a = has-cause its-checks 3 e (λ z. omega arith) in
+        passes (checks q′ ring tokens counts addresses lengths request) (all-pass (by-last (a .0) (a .1)))

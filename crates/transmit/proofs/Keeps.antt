@@ -1,0 +1,144 @@
+-- What the calls leave: the record given back is accepted again, a refused call changes nothing, and a send leaves every slot but
+-- those that it takes as it was, the device's among them.
+-- Assumes nothing.
+use Prim.Native.Nat.{ℕ, _+_, _-_, _%_, _≤_, _<_}
+use mathlib.Core.Path.{_≡_, refl, ap, _∙_}
+use mathlib.Core.Logic.{_≢_, _⊎_, inl, ⊎-elim}
+use mathlib.Core.Bool.{Bool, true, false, cond}
+use mathlib.Core.List.{List}
+use native.Mathlib.Nat.{mod-add-mod}
+use native.Mathlib.Omega.{arith}
+use borrow.Author.Tests.{lt-ltb, eqb-true, ne-eqb}
+use lib.Dec.{eqb}
+use lib.ListN.{length, getD}
+use lib.Seq.{getD-set-other}
+use Rattle.rules.specs.Rules.{within}
+use Rattle.rules.proofs.Tests.{both}
+use Rattle.ring.specs.Slots.{slotAt}
+use Rattle.ring.specs.Sizes.{queueOk, placeOk}
+use Rattle.ring.specs.Memory.{numbersAt}
+use Rattle.ring.proofs.Lines.{size-least}
+use Rattle.ring.proofs.Steps.{slot-below, apart}
+use Rattle.ring.proofs.Rows.{row-other}
+use Rattle.offload.specs.declared.Request.{Request}
+use Rattle.offload.specs.Request.{slotsOf}
+use Rattle.fill.specs.Descriptors.{descriptor}
+use Rattle.fill.proofs.Places.{two-words, slots-some}
+use Rattle.transmit.specs.declared.TxQueue.{TxQueue}
+use Rattle.transmit.specs.declared.Fresh.{Fresh}
+use Rattle.transmit.specs.declared.Sent.{Sent}
+use Rattle.transmit.specs.declared.Reclaimed.{Reclaimed}
+use Rattle.transmit.specs.Queue.{leastFrame, mostFrame, numbersOk, recordOk, slotOf, tailOf, movedTo, emptyQueue, freshOf}
+use Rattle.transmit.specs.Send.{answerTo, sendOf, ringAfter, tokensAfter, countsAfter}
+use Rattle.transmit.specs.Reclaim.{countAt, tokenAt, reclaimAnswer, reclaimOf}
+use Rattle.transmit.proofs.Laws.{kept, sendable}
+
+-- ---- accepted again
+
+-- accepted numbers, with a head and a posted below the size
+accepted : (q : TxQueue) → numbersOk (q .queue) (q .size) (q .frame) ≡ true → q .head < q .size → q .posted < q .size → recordOk q ≡ true
+unfolding recordOk
+accepted q n h p = rw (n, lt-ltb (q .head) (q .size) h, lt-ltb (q .posted) (q .size) p)
+
+pub fresh-keeps : (queue size frame : ℕ) → freshOf queue size frame .answer ≡ 0 → recordOk (freshOf queue size frame .queue) ≡ true
+unfolding freshOf
+fresh-keeps queue size frame z = go (numbersOk queue size frame) refl z
+  where
+    given : Bool → Fresh
+    given b = cond b (record { answer = 0; queue = emptyQueue queue size frame }) (record { answer = 1; queue = emptyQueue 0 0 0 })
+
+    go : (b : Bool) → numbersOk queue size frame ≡ b → given b .answer ≡ 0 → recordOk (given b .queue) ≡ true
+    go true e a =
+        let l = size-least queue size (both (queueOk queue size) (within leastFrame mostFrame frame) e .0) in
+        accepted (emptyQueue queue size frame) e (omega arith) (omega arith)
+    go false e a = absurd (omega arith)
+
+module _ (q : TxQueue) (ok : recordOk q ≡ true) where
+  moved : (head posted : ℕ) → head < q .size → posted < q .size → recordOk (movedTo q head posted) ≡ true
+  unfolding recordOk
+  moved head posted h p =
+      accepted (movedTo q head posted) (both (numbersOk (q .queue) (q .size) (q .frame)) (placeOk (q .size) (q .head) (q .posted)) ok .0) h p
+
+  pub send-keeps : (ring tokens counts addresses lengths : List ℕ) (token : ℕ) (request : Request)
+      → recordOk (sendOf q ring tokens counts addresses lengths token request .queue) ≡ true
+  send-keeps ring tokens counts addresses lengths token request = go (eqb answer 0) refl
+    where
+      answer : ℕ
+      answer = answerTo q ring tokens counts addresses lengths token request
+
+      given : Bool → Sent
+      given b = cond b (record { answer = 0; queue = movedTo q (q .head) (q .posted + slotsOf request (length lengths)); slots = slotsOf request (length lengths) }) (record { answer = answer; queue = q; slots = 0 })
+
+      go : (b : Bool) → eqb answer 0 ≡ b → recordOk (given b .queue) ≡ true
+      go true e =
+          let s = sendable q (length ring) (length tokens) (length counts) addresses lengths request (eqb-true answer 0 e) in
+          moved (q .head) (q .posted + slotsOf request (length lengths)) (kept q ok .place .head-below) (omega (arith, s .room, kept q ok .place))
+      go false e = ok
+
+  pub reclaim-keeps : (ring tokens counts : List ℕ) → recordOk (reclaimOf q ring tokens counts .queue) ≡ true
+  unfolding reclaimOf
+  reclaim-keeps ring tokens counts = go (eqb answer 0) refl
+    where
+      answer : ℕ
+      answer = reclaimAnswer q ring tokens counts
+
+      count : ℕ
+      count = countAt q ring tokens counts
+
+      given : Bool → Reclaimed
+      given b = cond b (record { answer = 0; queue = movedTo q (slotOf q count) (q .posted - count); token = tokenAt q ring tokens counts; count = count }) (record { answer = answer; queue = q; token = 0; count = 0 })
+
+      go : (b : Bool) → eqb answer 0 ≡ b → recordOk (given b .queue) ≡ true
+      go true e = moved (slotOf q count) (q .posted - count) (slot-below (q .head) (q .size) count (omega (arith, kept q ok .place))) (omega (arith, kept q ok .place))
+      go false e = ok
+
+-- ---- a refused call
+
+pub reclaim-refused : (q : TxQueue) (ring tokens counts : List ℕ) → reclaimAnswer q ring tokens counts ≢ 0
+    → reclaimOf q ring tokens counts ≡ record { answer = reclaimAnswer q ring tokens counts; queue = q; token = 0; count = 0 }
+unfolding reclaimOf
+reclaim-refused q ring tokens counts ne = rw (ne-eqb (reclaimAnswer q ring tokens counts) 0 ne)
+
+module _ (q : TxQueue) (ring tokens counts addresses lengths : List ℕ) (token : ℕ) (request : Request) where
+  pub record Unchanged : Type 0 where
+    pub result-is : sendOf q ring tokens counts addresses lengths token request ≡ record { answer = answerTo q ring tokens counts addresses lengths token request; queue = q; slots = 0 }
+    pub ring-same : ringAfter q ring tokens counts addresses lengths token request ≡ ring
+    pub tokens-same : tokensAfter q ring tokens counts addresses lengths token request ≡ tokens
+    pub counts-same : countsAfter q ring tokens counts addresses lengths token request ≡ counts
+
+  pub send-refused : answerTo q ring tokens counts addresses lengths token request ≢ 0 → Unchanged
+  send-refused ne =
+      let e = ne-eqb (answerTo q ring tokens counts addresses lengths token request) 0 ne in
+      record { result-is = rw e; ring-same = rw e; tokens-same = rw e; counts-same = rw e }
+
+  -- ---- the slots that a send does not take
+
+  -- the slot at distance k from head reads as it did, and so do its token and its count
+  pub record Stays (k : ℕ) : Type 0 where
+    pub words-same : numbersAt 2 (ringAfter q ring tokens counts addresses lengths token request) (slotOf q k) ≡ numbersAt 2 ring (slotOf q k)
+    pub token-same : getD (tokensAfter q ring tokens counts addresses lengths token request) (slotOf q k) 0 ≡ getD tokens (slotOf q k) 0
+    pub count-same : getD (countsAfter q ring tokens counts addresses lengths token request) (slotOf q k) 0 ≡ getD counts (slotOf q k) 0
+
+  pub others-stay : (k : ℕ) → k < q .size → (k < q .posted) ⊎ (q .posted + slotsOf request (length lengths) ≤ k) → Stays k
+  others-stay k l out = go (eqb answer 0) refl
+    where
+      answer : ℕ
+      answer = answerTo q ring tokens counts addresses lengths token request
+
+      go : (b : Bool) → eqb answer 0 ≡ b → Stays k
+      go true e =
+          let s = sendable q (length ring) (length tokens) (length counts) addresses lengths request (eqb-true answer 0 e) in
+          let free : (j : ℕ) → j < slotsOf request (length lengths) → slotOf q k ≢ slotAt (tailOf q) (q .size) j = λ j h e.
+          apart (q .head) (q .size) k (q .posted + j) l (omega (arith, s .room, s .lent-is .is .place)) (λ d. ⊎-elim (λ a. omega arith) (λ a. omega arith) out)
+          (e ∙ mod-add-mod (q .head + q .posted) (q .size) j ∙ ap (λ (m : ℕ). m % q .size) (omega arith)) in
+          let tail : slotOf q k ≢ tailOf q = apart (q .head) (q .size) k (q .posted) l (omega (arith, s .lent-is .is .place)) (λ d. ⊎-elim (λ a. omega arith) (λ a. omega (arith, s .own .some, slots-some request (length lengths))) out) in
+          record {
+            words-same = rw e (row-other 2 (q .size) (descriptor request addresses lengths) ring (tailOf q) (two-words request addresses lengths) (slotsOf request (length lengths)) (slotOf q k) free);
+            token-same = rw e (getD-set-other tokens (tailOf q) (slotOf q k) token 0 tail);
+            count-same = rw e (getD-set-other counts (tailOf q) (slotOf q k) (slotsOf request (length lengths)) 0 tail);
+          }
+      go false e = record { words-same = rw e; token-same = rw e; count-same = rw e }
+
+  -- the device's slots are those at distances below posted
+  pub devices-stay : recordOk q ≡ true → (k : ℕ) → k < q .posted → Stays k
+  devices-stay ok k l = others-stay k (omega (arith, kept q ok .place)) (inl l)

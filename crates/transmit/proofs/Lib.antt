@@ -1,0 +1,6 @@
+pub mod Laws
+pub mod ReadBack
+pub mod Causes
+pub mod Keeps
+pub mod Packets
+pub mod Outcomes

@@ -1,0 +1,73 @@
+-- A packet from its send to its reclaim: once it is at head and its last slot is marked, reclaim gives the token and the count that its
+-- send stored.
+-- Assumes nothing.
+use Prim.Native.Nat.{ℕ, zero, suc, _-_, _≤_, _<_}
+use mathlib.Core.Path.{_≡_, refl, ap, _∙_}
+use mathlib.Core.Bool.{true, false}
+use mathlib.Core.List.{List}
+use native.Mathlib.Omega.{arith}
+use borrow.Author.Tests.{eq-eqb, ne-eqb, le-ltb}
+use lib.ListN.{length, getD}
+use lib.Seq.{getD-set-same}
+use Rattle.rules.specs.Rules.{nth}
+use Rattle.rules.proofs.Checks.{passes}
+use Rattle.ring.proofs.Steps.{slot-below}
+use Rattle.offload.specs.declared.Request.{Request}
+use Rattle.offload.specs.Request.{slotsOf}
+use Rattle.fill.proofs.Places.{slots-some}
+use Rattle.transmit.specs.declared.TxQueue.{TxQueue}
+use Rattle.transmit.specs.Queue.{lentOk, slotOf, tailOf, movedTo}
+use Rattle.transmit.specs.Send.{answerTo, tokensAfter, countsAfter}
+use Rattle.transmit.specs.Reclaim.{isMarked, countAt, tokenAt, reclaimChecks, reclaimAnswer, reclaimOf}
+use Rattle.transmit.proofs.Laws.{Sendable, sendable}
+
+-- a marked packet at head, its count right, is reclaimed
+module _ (q : TxQueue) (ring tokens counts : List ℕ) where
+  pub reclaims : (count token : ℕ) → countAt q ring tokens counts ≡ count → tokenAt q ring tokens counts ≡ token
+      → lentOk q (length ring) (length tokens) (length counts) ≡ true → 1 ≤ count → count ≤ q .posted → isMarked ring (slotOf q (count - 1)) ≡ true
+      → reclaimOf q ring tokens counts ≡ record { answer = 0; queue = movedTo q (slotOf q count) (q .posted - count); token = token; count = count }
+  unfolding reclaimOf reclaimAnswer
+  reclaims count token c t l some most m =
+      rw (eq-eqb (reclaimAnswer q ring tokens counts) 0 (passes (reclaimChecks q ring tokens counts) all-pass), c, t)
+    where
+      all-pass : (i : ℕ) → nth (reclaimChecks q ring tokens counts) i .cause ≡ false
+      all-pass zero = rw l
+      all-pass (suc zero) = ne-eqb (q .posted) 0 (λ z. omega arith)
+      all-pass (suc (suc zero)) = rw (c, ne-eqb count 0 (λ z. omega arith), le-ltb (q .posted) count most)
+      all-pass (suc (suc (suc zero))) = rw (c, m)
+      all-pass (suc (suc (suc (suc i)))) = refl
+
+module _ (q : TxQueue) (ring tokens counts addresses lengths : List ℕ) (token : ℕ) (request : Request)
+    (done : answerTo q ring tokens counts addresses lengths token request ≡ 0) where
+  facts : Sendable q (length ring) (length tokens) (length counts) addresses lengths request
+  facts = sendable q (length ring) (length tokens) (length counts) addresses lengths request done
+
+  abbrev slots : ℕ
+  slots = slotsOf request (length lengths)
+
+  tail-below : tailOf q < q .size
+  tail-below = slot-below (q .head) (q .size) (q .posted) (omega (arith, facts .lent-is .is .place))
+
+  -- an accepted send stores its token and its slot count at the packet's first slot, the old tail
+  pub token-stored : getD (tokensAfter q ring tokens counts addresses lengths token request) (tailOf q) 0 ≡ token
+  token-stored =
+      rw (eq-eqb (answerTo q ring tokens counts addresses lengths token request) 0 done)
+      (getD-set-same tokens (tailOf q) token 0 (omega (arith, tail-below, facts .lent-is .tokens-long)))
+
+  pub count-stored : getD (countsAfter q ring tokens counts addresses lengths token request) (tailOf q) 0 ≡ slots
+  count-stored =
+      rw (eq-eqb (answerTo q ring tokens counts addresses lengths token request) 0 done)
+      (getD-set-same counts (tailOf q) slots 0 (omega (arith, tail-below, facts .lent-is .counts-long)))
+
+  -- a later record whose head is the packet's first slot, and lent lists that still have what the send stored there
+  pub sent-reclaimed : (q′ : TxQueue) (ring′ tokens′ counts′ : List ℕ) → lentOk q′ (length ring′) (length tokens′) (length counts′) ≡ true
+      → q′ .head ≡ tailOf q → slots ≤ q′ .posted
+      → getD tokens′ (tailOf q) 0 ≡ getD (tokensAfter q ring tokens counts addresses lengths token request) (tailOf q) 0
+      → getD counts′ (tailOf q) 0 ≡ getD (countsAfter q ring tokens counts addresses lengths token request) (tailOf q) 0
+      → isMarked ring′ (slotOf q′ (slots - 1)) ≡ true
+      → reclaimOf q′ ring′ tokens′ counts′ ≡ record { answer = 0; queue = movedTo q′ (slotOf q′ slots) (q′ .posted - slots); token = token; count = slots }
+  sent-reclaimed q′ ring′ tokens′ counts′ l h p t c m =
+      reclaims q′ ring′ tokens′ counts′ slots token
+      (ap (λ (s : ℕ). getD counts′ s 0) h ∙ c ∙ count-stored)
+      (ap (λ (s : ℕ). getD tokens′ s 0) h ∙ t ∙ token-stored)
+      l (omega (arith, facts .own .some, slots-some request (length lengths))) p m

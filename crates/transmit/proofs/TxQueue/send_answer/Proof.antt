@@ -1,0 +1,58 @@
+-- `TxQueue::send_answer` meets its contract: each answer by the tests on the way.
+-- Assumes nothing.
+use mathlib.Core.Path.{sym, _∙_}
+use native.Mathlib.Omega.{arith}
+use borrow.Author.Needs.{needs}
+use borrow.Author.Tests.{ne-eqb, lt-ltb, le-ltb}
+use Rattle.offload.specs.Offload.{sendChecks}
+use Rattle.offload.proofs.Accepted.{accepted}
+use Rattle.offload.proofs.Causes.{asked-next}
+use Rattle.transmit.specs.Send.{sendAnswer}
+use Rattle.transmit.proofs.Laws.{lent}
+use Rattle.transmit.proofs.TxQueue.send_answer.Statement.{statement}
+use Rattle.transmit.proofs.TxQueue.send_answer.Tie as tie
+
+lent-ok-requires : tie.Need-lent-ok-requires
+lent-ok-requires c κs = search needs
+
+judge-requires : tie.Need-judge-requires
+judge-requires c κs = search needs
+
+sub-if3 : tie.Need-sub-if3
+sub-if3 c = let h = lent _ _ _ _ (sym (c .before .before .before .lent-ok .ensures) ∙ c .before .before .if1 .taken) in omega arith
+
+sub-if3-2 : tie.Need-sub-if3-2
+sub-if3-2 c = let h = lent _ _ _ _ (sym (c .before .before .before .lent-ok .ensures) ∙ c .before .before .if1 .taken) in omega arith
+
+slots-of-requires : tie.Need-slots-of-requires
+slots-of-requires c κs = accepted _ _ _ _ (sym (c .before .judge .ensures) ∙ c .if2 .taken) .few
+
+returns : tie.Need-returns
+unfolding sendAnswer
+returns c = rw (sym (c .before .before .before .before .before .lent-ok .ensures), c .before .before .before .before .if1 .taken, asked-next (sendChecks _ _ _ _) _ tt, sym (c .before .before .before .judge .ensures), c .before .before .if2 .taken, sym (c .before .slots-of .ensures), lt-ltb _ _ (c .if3 .taken))
+
+returns-2 : tie.Need-returns-2
+unfolding sendAnswer
+returns-2 c = rw (sym (c .before .before .before .before .before .lent-ok .ensures), c .before .before .before .before .if1 .taken, asked-next (sendChecks _ _ _ _) _ tt, sym (c .before .before .before .judge .ensures), c .before .before .if2 .taken, sym (c .before .slots-of .ensures), le-ltb _ _ (c .if3 .left))
+
+returns-3 : tie.Need-returns-3
+unfolding sendAnswer
+returns-3 c = rw (sym (c .before .before .before .lent-ok .ensures), c .before .before .if1 .taken, asked-next (sendChecks _ _ _ _) _ tt, sym (c .before .judge .ensures), ne-eqb _ _ (c .if2 .left))
+
+returns-4 : tie.Need-returns-4
+unfolding sendAnswer
+returns-4 c = rw (sym (c .before .lent-ok .ensures), c .if1 .left)
+
+pub send-answer-spec : {M : Type 1} → statement M
+send-answer-spec =
+    tie.close
+    (tie.spec
+    lent-ok-requires
+    judge-requires
+    sub-if3
+    sub-if3-2
+    slots-of-requires
+    returns
+    returns-2
+    returns-3
+    returns-4)

@@ -1,0 +1,4 @@
+pub mod Queue
+pub mod Send
+pub mod Reclaim
+pub mod ReadBack

@@ -1,0 +1,95 @@
+// Send: the answer first, then the descriptors, the token and the slot count.
+ghost use mathlib.Core.Path.{_≡_};
+ghost use Prim.Native.Nat.{_≤_};
+ghost use Rattle.offload.specs.Request.{slotsOf};
+ghost use Rattle.offload.specs.Offload.{mostPieces};
+ghost use Rattle.transmit.specs.Send.{sendAnswer, SentAs};
+use crate::Sent;
+use crate::TxQueue;
+use fill::put_descriptors;
+use offload::Request;
+use offload::judge;
+
+// The slots that so many pieces take.
+fn slots_of(request: Request, pieces: usize) -> usize
+    requires { ⌜ pieces ≤ mostPieces ⌝ }
+    ensures { λ r. ⌜ r ≡ slotsOf request pieces ⌝ }
+{
+    if request.segmented {
+        pieces + 1
+    } else {
+        pieces
+    }
+}
+
+impl TxQueue {
+    fn send_answer(
+        self,
+        ring: usize,
+        tokens: usize,
+        counts: usize,
+        addresses: &[u64],
+        lengths: &[u64],
+        request: Request,
+    ) -> u8
+        ensures { λ r. ⌜ r ≡ sendAnswer self ring tokens counts (now (addresses .entry)) (now (lengths .entry)) request ⌝ }
+    {
+        let size = self.size;
+        let posted = self.posted;
+        if self.lent_ok(ring, tokens, counts) {
+            let own = judge(addresses, lengths, self.frame as u64, request);
+            if own == 0 {
+                if size - 1 - posted < slots_of(request, lengths.len()) {
+                    3
+                } else {
+                    0
+                }
+            } else {
+                own
+            }
+        } else {
+            1
+        }
+    }
+
+    pub fn send(
+        self,
+        ring: &mut [u64],
+        tokens: &mut [u64],
+        counts: &mut [u16],
+        addresses: &[u64],
+        lengths: &[u64],
+        token: u64,
+        request: Request,
+    ) -> Sent
+        ensures { λ r. ⌜ SentAs self (now (ring .entry)) (now (tokens .entry)) (now (counts .entry)) (now (addresses .entry)) (now (lengths .entry)) token request r (now (ring .exit)) (now (tokens .exit)) (now (counts .exit)) ⌝ }
+    {
+        let answer = self.send_answer(
+            ring.len(),
+            tokens.len(),
+            counts.len(),
+            addresses,
+            lengths,
+            request,
+        );
+        if answer == 0 {
+            let tail = ring::slot(self.head, self.size, self.posted);
+            let slots = slots_of(request, lengths.len());
+            put_descriptors(ring, self.size, tail, addresses, lengths, request);
+            tokens[tail] = token;
+            counts[tail] = slots as u16;
+            let queue = self.moved_to(self.head, self.posted + slots);
+            Sent {
+                answer,
+                queue,
+                slots,
+            }
+        } else {
+            Sent {
+                answer,
+                queue: self,
+                slots: 0,
+            }
+        }
+    }
+}
