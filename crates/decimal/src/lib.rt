@@ -1,7 +1,7 @@
 // Decimal numbers as text: read from a word, and put into a text.
 ghost use mathlib.Core.Path.{_≡_};
 ghost use mathlib.Core.List.{foldl};
-ghost use Prim.Native.Nat.{ℕ, _+_, _<_, _≤_};
+ghost use Prim.Native.Nat.{_+_, _<_};
 ghost use lib.ListN.{length};
 ghost use lib.Seq.{sets};
 ghost use Rattle.decimal.specs.Digits.{isDigit, numberIs, numberOf, nextRead, digitsOf, Spelled};

@@ -1,9 +1,9 @@
 // Input that comes in pieces: the lines of a text of which a lent memory holds a part.
 ghost use mathlib.Core.Path.{_≡_};
 ghost use mathlib.Core.Bool.{false};
-ghost use Prim.Native.Nat.{_+_, _≤_, min};
-ghost use lib.ListN.{length, take};
-ghost use lib.Seq.{slice, sets};
+ghost use Prim.Native.Nat.{_+_, min};
+ghost use lib.ListN.{take};
+ghost use lib.Seq.{slice};
 ghost use Rattle.feed.specs.Feeding.{noLines, nextOf, lastOf, moreOf, RoomMade, MovedDown};
 
 // The part of the memory that is not read yet, and whether it goes on a line of which the beginning

@@ -2,7 +2,7 @@
 -- Assumes nothing.
 use Prim.Native.Nat.{ℕ, _+_, _^_, _≤_, _<_}
 use mathlib.Core.Path.{_≡_}
-use mathlib.Core.Bool.{true}
+use mathlib.Core.Bool.{Bool, true, false, cond}
 use mathlib.Core.List.{List, [], _∷_}
 use borrow.Author.Tests.{eqb-false, ltb-false, not-true, not-false}
 use native.Mathlib.Omega.{arith}
@@ -12,6 +12,7 @@ use Rattle.rules.specs.Rules.{answerOf}
 use Rattle.rules.proofs.Tests.{none, all-each}
 use Rattle.rules.proofs.Checks.{passed}
 use Rattle.offload.specs.declared.Request.{Request}
+use Rattle.offload.specs.Request.{slotsOf}
 use Rattle.offload.specs.Offload.{piecesOk, addressesOk, requestOk, sendChecks}
 use Rattle.offload.specs.Accepted.{Accepted}
 use Rattle.offload.proofs.Laws.{pieces-are, request-is}
@@ -49,3 +50,11 @@ module _ (addresses lengths : List ℕ) (maximum : ℕ) (q : Request) where
         inside = addresses-each addresses lengths (p .addresses-right);
         sound = request-is lengths maximum q (p .request);
       }
+
+-- a send needs a slot a piece, and at most one more
+pub slots-are : (q : Request) (n : ℕ) → (n ≤ slotsOf q n) × (slotsOf q n ≤ n + 1)
+slots-are q n = go (q .segmented)
+  where
+    go : (b : Bool) → (n ≤ cond b (n + 1) n) × (cond b (n + 1) n ≤ n + 1)
+    go true = (omega arith, omega arith)
+    go false = (omega arith, omega arith)

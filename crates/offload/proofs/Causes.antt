@@ -2,16 +2,25 @@
 -- Assumes nothing.
 use Prim.Native.Nat.{ℕ, _≤_}
 use mathlib.Core.Path.{_≡_, refl}
-use mathlib.Core.Bool.{Bool, true, false, not, _&&_, cond}
+use mathlib.Core.Bool.{Bool, true, false, not, _&&_, cond, true≢false}
 use mathlib.Core.List.{List, _++_, [], _∷_}
+use borrow.Author.Tests.{eqb-false}
 use lib.Dec.{T, eqb}
 use Rattle.rules.specs.Rules.{Check, answerOf, refusing, Answers}
 use Rattle.rules.proofs.Checks.{has-cause, is-answered}
 use Rattle.segments.specs.Touch.{mostTouched, touched}
 use Rattle.segments.proofs.Meaning.{touched-few}
 use Rattle.offload.specs.declared.Request.{Request}
-use Rattle.offload.specs.Offload.{piecesOk, isOver, sendChecks}
+use Rattle.offload.specs.Offload.{piecesOk, addressesOk, requestOk, sendChecks}
 use Rattle.offload.proofs.Laws.{plain-few}
+
+-- 6, 2 and 7 are not 8
+not-eight : (a b c s x : Bool) → s ≡ false → _≡_ {A = ℕ} (cond (not a) 6 (cond (not b) 2 (cond (not c) 7 (cond (s && x) 8 0)))) 8 → ⊥
+not-eight false b c s x e h = eqb-false 6 8 refl h
+not-eight true false c s x e h = eqb-false 2 8 refl h
+not-eight true true false s x e h = eqb-false 7 8 refl h
+not-eight true true true false x e h = eqb-false 0 8 refl h
+not-eight true true true true x e h = true≢false e
 
 module _ (addresses lengths : List ℕ) (maximum : ℕ) (q : Request) where
   -- a number is answered exactly if its cause holds and no earlier one does
@@ -22,8 +31,9 @@ module _ (addresses lengths : List ℕ) (maximum : ℕ) (q : Request) where
   refuses = is-answered (sendChecks addresses lengths maximum q)
 
   -- a plain send is never refused with 8
-  pub plain-not-over : q .segmented ≡ false → isOver lengths q ≡ false
-  plain-not-over e = rw e
+  pub plain-never : q .segmented ≡ false → answerOf (sendChecks addresses lengths maximum q) ≡ 8 → ⊥
+  plain-never e h =
+      not-eight (piecesOk addresses lengths maximum q) (addressesOk addresses lengths) (requestOk lengths maximum q) (q .segmented) _ e h
 
   -- nor need it be: whatever its segments were, none would touch more than 8 pieces
   pub plain-touches : piecesOk addresses lengths maximum q ≡ true → q .segmented ≡ false → (header mss tlen k : ℕ) → touched lengths header mss tlen k ≤ mostTouched

@@ -74,7 +74,7 @@ module _ (q : TxQueue) (ring tokens counts : ℕ) (addresses lengths : List ℕ)
   -- retry: refused with 3, it gets 0 on any accepted record of the same size and frame whose free slots reach what it needs
   module _ (q′ : TxQueue) (ok : recordOk q′ ≡ true) (same-size : q′ .size ≡ q .size) (same-frame : q′ .frame ≡ q .frame) (room : slotsOf request (length lengths) ≤ freeSlots q′) where
     all-pass : ((j : ℕ) → j < 5 → nth its-checks j .cause ≡ false) → (j : ℕ) → nth (checks q′ ring tokens counts addresses lengths request) j .cause ≡ false
-    all-pass before zero = rw (lent-same q q′ ring tokens counts ok same-size (not-false _ (before 0 (omega arith))))
+    all-pass before zero = rw (lent-same q ring tokens counts (not-false _ (before 0 (omega arith))) q′ ok same-size)
     all-pass before (suc zero) = rw same-frame (before 1 (omega arith))
     all-pass before (suc (suc zero)) = before 2 (omega arith)
     all-pass before (suc (suc (suc zero))) = rw same-frame (before 3 (omega arith))

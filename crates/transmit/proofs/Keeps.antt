@@ -10,16 +10,16 @@ use native.Mathlib.Nat.{mod-add-mod}
 use native.Mathlib.Omega.{arith}
 use borrow.Author.Tests.{lt-ltb, eqb-true, ne-eqb}
 use lib.Dec.{eqb}
-use lib.ListN.{length, getD}
+use lib.ListN.{length, getD, set, length-set}
 use lib.Seq.{getD-set-other}
 use Rattle.rules.specs.Rules.{within}
 use Rattle.rules.proofs.Tests.{both}
 use Rattle.ring.specs.Slots.{slotAt}
 use Rattle.ring.specs.Sizes.{queueOk, placeOk}
-use Rattle.ring.specs.Memory.{numbersAt}
+use Rattle.ring.specs.Memory.{numbersAt, storeRun}
 use Rattle.ring.proofs.Lines.{size-least}
 use Rattle.ring.proofs.Steps.{slot-below, apart}
-use Rattle.ring.proofs.Rows.{row-other}
+use Rattle.ring.proofs.Rows.{row-length, row-other}
 use Rattle.offload.specs.declared.Request.{Request}
 use Rattle.offload.specs.Request.{slotsOf}
 use Rattle.fill.specs.Descriptors.{descriptor}
@@ -28,10 +28,10 @@ use Rattle.transmit.specs.declared.TxQueue.{TxQueue}
 use Rattle.transmit.specs.declared.Fresh.{Fresh}
 use Rattle.transmit.specs.declared.Sent.{Sent}
 use Rattle.transmit.specs.declared.Reclaimed.{Reclaimed}
-use Rattle.transmit.specs.Queue.{leastFrame, mostFrame, numbersOk, recordOk, slotOf, tailOf, movedTo, emptyQueue, freshOf}
+use Rattle.transmit.specs.Queue.{leastFrame, mostFrame, numbersOk, recordOk, lentOk, slotOf, tailOf, movedTo, emptyQueue, freshOf}
 use Rattle.transmit.specs.Send.{answerTo, sendOf, ringAfter, tokensAfter, countsAfter}
 use Rattle.transmit.specs.Reclaim.{countAt, tokenAt, reclaimAnswer, reclaimOf}
-use Rattle.transmit.proofs.Laws.{kept, sendable}
+use Rattle.transmit.proofs.Laws.{kept, lent-record, lent-same, sendable}
 
 -- ---- accepted again
 
@@ -53,6 +53,10 @@ fresh-keeps queue size frame z = go (numbersOk queue size frame) refl z
         accepted (emptyQueue queue size frame) e (omega arith) (omega arith)
     go false e a = absurd (omega arith)
 
+-- what a send gives back, by whether it is accepted
+abbrev given : TxQueue → ℕ → ℕ → Bool → Sent
+given q answer slots b = cond b (record { answer = 0; queue = movedTo q (q .head) (q .posted + slots); slots = slots }) (record { answer = answer; queue = q; slots = 0 })
+
 module _ (q : TxQueue) (ok : recordOk q ≡ true) where
   moved : (head posted : ℕ) → head < q .size → posted < q .size → recordOk (movedTo q head posted) ≡ true
   unfolding recordOk
@@ -66,10 +70,7 @@ module _ (q : TxQueue) (ok : recordOk q ≡ true) where
       answer : ℕ
       answer = answerTo q ring tokens counts addresses lengths token request
 
-      given : Bool → Sent
-      given b = cond b (record { answer = 0; queue = movedTo q (q .head) (q .posted + slotsOf request (length lengths)); slots = slotsOf request (length lengths) }) (record { answer = answer; queue = q; slots = 0 })
-
-      go : (b : Bool) → eqb answer 0 ≡ b → recordOk (given b .queue) ≡ true
+      go : (b : Bool) → eqb answer 0 ≡ b → recordOk (given q answer (slotsOf request (length lengths)) b .queue) ≡ true
       go true e =
           let s = sendable q (length ring) (length tokens) (length counts) addresses lengths request (eqb-true answer 0 e) in
           moved (q .head) (q .posted + slotsOf request (length lengths)) (kept q ok .place .head-below) (omega (arith, s .room, kept q ok .place))
@@ -91,6 +92,10 @@ module _ (q : TxQueue) (ok : recordOk q ≡ true) where
       go : (b : Bool) → eqb answer 0 ≡ b → recordOk (given b .queue) ≡ true
       go true e = moved (slotOf q count) (q .posted - count) (slot-below (q .head) (q .size) count (omega (arith, kept q ok .place))) (omega (arith, kept q ok .place))
       go false e = ok
+
+either-long : (b : Bool) (xs ys : List ℕ) → length xs ≡ length ys → length (cond b xs ys) ≡ length ys
+either-long true xs ys e = e
+either-long false xs ys e = refl
 
 -- ---- a refused call
 
@@ -142,3 +147,31 @@ module _ (q : TxQueue) (ring tokens counts addresses lengths : List ℕ) (token 
   -- the device's slots are those at distances below posted
   pub devices-stay : recordOk q ≡ true → (k : ℕ) → k < q .posted → Stays k
   devices-stay ok k l = others-stay k (omega (arith, kept q ok .place)) (inl l)
+
+  -- ---- the lent slices
+
+  abbrev accepts : Bool
+  accepts = eqb (answerTo q ring tokens counts addresses lengths token request) 0
+
+  -- a send leaves the slices of the lengths that they had
+  pub ring-long : length (ringAfter q ring tokens counts addresses lengths token request) ≡ length ring
+  ring-long = either-long accepts (storeRun 2 (q .size) (descriptor request addresses lengths) ring (tailOf q) (slotsOf request (length lengths))) ring (row-length 2 (q .size) (descriptor request addresses lengths) ring (tailOf q) (slotsOf request (length lengths)))
+
+  pub tokens-long : length (tokensAfter q ring tokens counts addresses lengths token request) ≡ length tokens
+  tokens-long = either-long accepts (set tokens (tailOf q) token) tokens (length-set tokens (tailOf q) token)
+
+  pub counts-long : length (countsAfter q ring tokens counts addresses lengths token request) ≡ length counts
+  counts-long = either-long accepts (set counts (tailOf q) (slotsOf request (length lengths))) counts (length-set counts (tailOf q) (slotsOf request (length lengths)))
+
+  -- so they are right for the record that it gives back
+  pub send-lends : lentOk q (length ring) (length tokens) (length counts) ≡ true
+      → lentOk (sendOf q ring tokens counts addresses lengths token request .queue) (length (ringAfter q ring tokens counts addresses lengths token request)) (length (tokensAfter q ring tokens counts addresses lengths token request)) (length (countsAfter q ring tokens counts addresses lengths token request)) ≡ true
+  send-lends l =
+      rw (ring-long, tokens-long, counts-long)
+      (lent-same q (length ring) (length tokens) (length counts) l (sendOf q ring tokens counts addresses lengths token request .queue)
+      (send-keeps q (lent-record q (length ring) (length tokens) (length counts) l) ring tokens counts addresses lengths token request)
+      (size-same accepts))
+    where
+      size-same : (b : Bool) → given q (answerTo q ring tokens counts addresses lengths token request) (slotsOf request (length lengths)) b .queue .size ≡ q .size
+      size-same true = refl
+      size-same false = refl

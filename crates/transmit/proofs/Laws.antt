@@ -36,19 +36,24 @@ kept q e =
       frame-high = f .1;
     }
 
-pub lent : (q : TxQueue) (ring tokens counts : ℕ) → lentOk q ring tokens counts ≡ true → Lent q ring tokens counts
-unfolding lentOk
-lent q ring tokens counts e =
-    let a = both (recordOk q) (eqb ring (2 * q .size) && (eqb tokens (q .size) && eqb counts (q .size))) e in
-    let r = both (eqb ring (2 * q .size)) (eqb tokens (q .size) && eqb counts (q .size)) (a .1) in
-    let l = both (eqb tokens (q .size)) (eqb counts (q .size)) (r .1) in
-    record { is = kept q (a .0); ring-long = eqb-true _ _ (r .0); tokens-long = eqb-true _ _ (l .0); counts-long = eqb-true _ _ (l .1) }
+module _ (q : TxQueue) (ring tokens counts : ℕ) (e : lentOk q ring tokens counts ≡ true) where
+  apart : (recordOk q ≡ true) × (eqb ring (2 * q .size) && (eqb tokens (q .size) && eqb counts (q .size)) ≡ true)
+  unfolding lentOk
+  apart = both (recordOk q) (eqb ring (2 * q .size) && (eqb tokens (q .size) && eqb counts (q .size))) e
 
--- slices of a size's lengths are right for every accepted record of that size
-pub lent-same : (q q′ : TxQueue) (ring tokens counts : ℕ) → recordOk q′ ≡ true → q′ .size ≡ q .size → lentOk q ring tokens counts ≡ true → lentOk q′ ring tokens counts ≡ true
-unfolding lentOk
-lent-same q q′ ring tokens counts ok e l =
-    rw (ok, e) (both (recordOk q) (eqb ring (2 * q .size) && (eqb tokens (q .size) && eqb counts (q .size))) l .1)
+  pub lent-record : recordOk q ≡ true
+  lent-record = apart .0
+
+  pub lent : Lent q ring tokens counts
+  lent =
+      let r = both (eqb ring (2 * q .size)) (eqb tokens (q .size) && eqb counts (q .size)) (apart .1) in
+      let l = both (eqb tokens (q .size)) (eqb counts (q .size)) (r .1) in
+      record { is = kept q (apart .0); ring-long = eqb-true _ _ (r .0); tokens-long = eqb-true _ _ (l .0); counts-long = eqb-true _ _ (l .1) }
+
+  -- slices of a size's lengths are right for every accepted record of that size
+  pub lent-same : (q′ : TxQueue) → recordOk q′ ≡ true → q′ .size ≡ q .size → lentOk q′ ring tokens counts ≡ true
+  unfolding lentOk
+  lent-same q′ ok s = rw (ok, s) (apart .1)
 
 -- ---- send
 
@@ -62,6 +67,7 @@ first-pass cs ds t e = go (eqb (answerOf cs) 0) refl (sym (asked-next cs ds t) �
 
 module _ (q : TxQueue) (ring tokens counts : ℕ) (addresses lengths : List ℕ) (request : Request) where
   pub record Sendable : Type 0 where
+    pub lent-ok : lentOk q ring tokens counts ≡ true
     pub lent-is : Lent q ring tokens counts
     pub own : Accepted addresses lengths (q .frame) request
     pub room : slotsOf request (length lengths) ≤ freeSlots q
@@ -72,7 +78,7 @@ module _ (q : TxQueue) (ring tokens counts : ℕ) (addresses lengths : List ℕ)
       let p = passed (checks q ring tokens counts addresses lengths request) tt e in
       let l : lentOk q ring tokens counts ≡ true = not-false _ (p 0) in
       let own : answerOf (sendChecks addresses lengths (q .frame) request) ≡ 0 = first-pass (sendChecks addresses lengths (q .frame) request) (3 when ltb (freeSlots q) (slotsOf request (length lengths)) ∷ []) tt (rw l at e) in
-      record { lent-is = lent q ring tokens counts l; own = accepted addresses lengths (q .frame) request own; room = ltb-false (freeSlots q) (slotsOf request (length lengths)) (p 5) }
+      record { lent-ok = l; lent-is = lent q ring tokens counts l; own = accepted addresses lengths (q .frame) request own; room = ltb-false (freeSlots q) (slotsOf request (length lengths)) (p 5) }
 
 -- ---- reclaim
 

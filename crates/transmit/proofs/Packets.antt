@@ -1,10 +1,11 @@
 -- A packet from its send to its reclaim: once it is at head and its last slot is marked, reclaim gives the token and the count that its
 -- send stored.
 -- Assumes nothing.
-use Prim.Native.Nat.{ℕ, zero, suc, _-_, _≤_, _<_}
-use mathlib.Core.Path.{_≡_, refl, ap, _∙_}
+use Prim.Native.Nat.{ℕ, zero, suc, _-_, _%_, _≤_, _<_}
+use mathlib.Core.Path.{_≡_, refl, sym, ap, _∙_}
 use mathlib.Core.Bool.{true, false}
 use mathlib.Core.List.{List}
+use native.Mathlib.Nat.{zero-add, mod-eq-of-lt}
 use native.Mathlib.Omega.{arith}
 use borrow.Author.Tests.{eq-eqb, ne-eqb, le-ltb}
 use lib.ListN.{length, getD}
@@ -17,9 +18,10 @@ use Rattle.offload.specs.Request.{slotsOf}
 use Rattle.fill.proofs.Places.{slots-some}
 use Rattle.transmit.specs.declared.TxQueue.{TxQueue}
 use Rattle.transmit.specs.Queue.{lentOk, slotOf, tailOf, movedTo}
-use Rattle.transmit.specs.Send.{answerTo, tokensAfter, countsAfter}
+use Rattle.transmit.specs.Send.{answerTo, sendOf, tokensAfter, countsAfter}
 use Rattle.transmit.specs.Reclaim.{isMarked, countAt, tokenAt, reclaimChecks, reclaimAnswer, reclaimOf}
 use Rattle.transmit.proofs.Laws.{Sendable, sendable}
+use Rattle.transmit.proofs.Keeps.{ring-long, send-lends}
 
 -- a marked packet at head, its count right, is reclaimed
 module _ (q : TxQueue) (ring tokens counts : List ℕ) where
@@ -71,3 +73,17 @@ module _ (q : TxQueue) (ring tokens counts addresses lengths : List ℕ) (token 
       (ap (λ (s : ℕ). getD counts′ s 0) h ∙ c ∙ count-stored)
       (ap (λ (s : ℕ). getD tokens′ s 0) h ∙ t ∙ token-stored)
       l (omega (arith, facts .own .some, slots-some request (length lengths))) p m
+
+  -- of a queue that was empty, and any ring so long in which the device has marked the packet's last slot
+  pub first-reclaimed : q .posted ≡ 0 → (ring′ : List ℕ) → length ring′ ≡ length ring → isMarked ring′ (slotOf q (slots - 1)) ≡ true
+      → reclaimOf (movedTo q (q .head) slots) ring′ (tokensAfter q ring tokens counts addresses lengths token request) (countsAfter q ring tokens counts addresses lengths token request) ≡ record { answer = 0; queue = movedTo q (slotOf q slots) 0; token = token; count = slots }
+  first-reclaimed z ring′ e m =
+      let at-head : q .head ≡ tailOf q = sym (ap (λ (k : ℕ). k % q .size) (omega arith) ∙ mod-eq-of-lt (facts .lent-is .is .place .head-below)) in
+      let none : slots - slots ≡ 0 = omega arith in
+      sent-reclaimed (movedTo q (q .head) slots) ring′ _ _ lent-on at-head (omega arith) refl refl m ∙ rw none
+    where
+      sent-queue : sendOf q ring tokens counts addresses lengths token request .queue ≡ movedTo q (q .head) slots
+      sent-queue = rw (eq-eqb (answerTo q ring tokens counts addresses lengths token request) 0 done, z, zero-add)
+
+      lent-on : lentOk (movedTo q (q .head) slots) (length ring′) (length (tokensAfter q ring tokens counts addresses lengths token request)) (length (countsAfter q ring tokens counts addresses lengths token request)) ≡ true
+      lent-on = rw (← sent-queue, e ∙ sym (ring-long q ring tokens counts addresses lengths token request)) (send-lends q ring tokens counts addresses lengths token request (facts .lent-ok))

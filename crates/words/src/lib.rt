@@ -1,7 +1,6 @@
 // Lines and words of a script, and the numbers behind a command.
 ghost use mathlib.Core.Path.{_≡_};
-ghost use Prim.Native.Nat.{ℕ};
-ghost use lib.ListN.{length, set};
+ghost use lib.ListN.{set};
 ghost use Rattle.words.specs.Parts.{endOf, isSilent, ReadNumbers};
 
 // What stands behind a command: whether all of it is numbers, and no more than there is room for;

@@ -1,5 +1,5 @@
 -- `decimal::spell` meets its contract. The digits of the rest, put before those that are written, give the whole; each is stored at its place, the last first. Assumes nothing.
-use Prim.Native.Nat.{_≤_, _-_}
+use Prim.Native.Nat.{_≤_}
 use mathlib.Core.Path.{_≡_, refl, _∙_}
 use native.Mathlib.Omega.{arith}
 use lib.ListN.{length, length-set}
