@@ -4,15 +4,14 @@ use Prim.Native.Nat.{ℕ, _+_, _*_, _/_, _%_, _^_, _-_, _<_}
 use mathlib.Core.Path.{_≡_, sym, ap, ap₂, _∙_, subst}
 use mathlib.Core.Bool.{Bool}
 use mathlib.Core.List.{[], _∷_}
-use native.Mathlib.Nat.{mod-lt, zero-mul, zero-add, lt-of-lt-of-le}
+use native.Mathlib.Nat.{mod-lt, zero-mul, zero-add, add-zero, lt-of-lt-of-le}
 use native.Mathlib.Omega.{arith}
 use lib.Arith.{digits-lt}
-use lib.Bits.{bitAnd, bitOr, and-mask, or-block, or-shifted-r, or-zero-r}
-use lib.Dec.{T, leb, leb→le}
-use lib.Pow.{pow-pos, pow-add, pow-mono, split, mod-pow-add, shl-exact}
+use lib.Bits.{bitOr, or-block, or-shifted-r, or-zero-r}
+use lib.Pow.{pow-pos, pow-add, pow-mono, split, mod-pow-add}
 use Rattle.field.specs.Field.{fieldOf, placed, wordOf}
 use Rattle.field.proofs.Laws.{reads}
-use Rattle.descriptor.specs.Words.{dataParts, dataWord, lengthLine, readAt}
+use Rattle.descriptor.specs.Words.{dataParts, dataWord, lengthLine}
 use Rattle.offload.specs.declared.Request.{Request}
 use Rattle.offload.specs.Request.{dataOf}
 
@@ -31,17 +30,10 @@ or-put at k v w z hv =
     ∙ ap₂ (λ (x y : ℕ). x * 2 ^ n + y) (or-zero-r hi) (or-shifted-r v at lo (mod-lt w (pow-pos at)))
     ∙ omega arith
 
--- `w | (v & mask) << at`
-pub joined : (at k v w : ℕ) → T (leb (k + at) 64) → fieldOf at k w ≡ 0 → bitOr w (bitAnd v (2 ^ k - 1) * 2 ^ at % 2 ^ 64) ≡ w + placed at k v
-joined at k v w t z =
-    ap (λ (x : ℕ). bitOr w (x * 2 ^ at % 2 ^ 64)) (and-mask v k)
-    ∙ ap (bitOr w) (shl-exact k at 64 (mod-lt v (pow-pos k)) (leb→le (k + at) 64 t))
-    ∙ or-put at k (v % 2 ^ k) w z (mod-lt v (pow-pos k))
-
 module _ (request : Request) (last : Bool) where
-  -- what is alike on all pieces has no length yet
-  pub no-length : readAt lengthLine (dataWord (dataOf request 0 last)) ≡ 0
-  no-length = reads (dataParts (dataOf request 0 last)) tt 10 tt
-
-  pub with-length : (length : ℕ) → dataWord (dataOf request 0 last) + wordOf (lengthLine length ∷ []) ≡ dataWord (dataOf request length last)
-  with-length length = omega arith
+  -- a piece's length joined into what is alike on all pieces, which has no length yet
+  pub with-length : (length : ℕ) → bitOr (dataWord (dataOf request 0 last)) (wordOf (lengthLine length ∷ [])) ≡ dataWord (dataOf request length last)
+  with-length length =
+      ap (bitOr (dataWord (dataOf request 0 last))) (add-zero (placed 34 14 length))
+      ∙ or-put 34 14 (length % 2 ^ 14) (dataWord (dataOf request 0 last)) (reads (dataParts (dataOf request 0 last)) tt 10 tt) (mod-lt length (pow-pos 14))
+      ∙ omega arith

@@ -1,8 +1,9 @@
 -- What the descriptors of a send need to be stored: facts that an accepted send has shown.
 -- Assumes nothing.
-use Prim.Native.Nat.{ℕ, _+_, _*_, _≤_, _<_}
+use Prim.Native.Nat.{ℕ, _*_, _≤_, _<_}
 use mathlib.Core.Path.{_≡_}
 use mathlib.Core.List.{List, [], _∷_}
+use lib.Bits.{bitOr}
 use lib.ListN.{length, getD}
 use Rattle.field.specs.Field.{wordOf}
 use Rattle.descriptor.specs.Words.{lengthLine}
@@ -17,6 +18,6 @@ pub record Room (ring addresses lengths : List ℕ) (size start slots : ℕ) : T
   pub some : 1 ≤ length lengths
   pub fewer : slots < size
 
--- a piece before the last one: word 1 is what is alike on all of them, with the piece's length
+-- a piece before the last one: word 1 is what is alike on all of them, joined with the piece's length
 abbrev pub leadingNumbers : ℕ → List ℕ → List ℕ → ℕ → List ℕ
-leadingNumbers alike addresses lengths i = getD addresses i 0 ∷ (alike + wordOf (lengthLine (getD lengths i 0) ∷ [])) ∷ []
+leadingNumbers alike addresses lengths i = getD addresses i 0 ∷ bitOr alike (wordOf (lengthLine (getD lengths i 0) ∷ [])) ∷ []

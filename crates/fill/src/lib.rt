@@ -5,7 +5,6 @@ ghost use Prim.Native.Nat.{_+_, _-_, _*_, _<_};
 ghost use lib.ListN.{length};
 ghost use Rattle.ring.specs.Memory.{store, storeRun};
 ghost use Rattle.offload.specs.Request.{slotsOf};
-ghost use Rattle.descriptor.specs.Words.{readAt, lengthLine};
 ghost use Rattle.fill.specs.Descriptors.{pieceNumbers, descriptor};
 ghost use Rattle.fill.specs.Room.{Room, leadingNumbers};
 use offload::Request;
@@ -36,7 +35,6 @@ fn put_leading(
     alike: u64,
 )
     requires { ⌜ Room (now ring) (now addresses) (now lengths) size start (length (now lengths)) ⌝ }
-    requires { ⌜ readAt lengthLine alike ≡ 0 ⌝ }
     ensures { λ _. ⌜ now (ring .exit) ≡ storeRun 2 size (leadingNumbers alike (now (addresses .entry)) (now (lengths .entry))) (now (ring .entry)) start (length (now (lengths .entry)) - 1) ⌝ }
 {
     let last = lengths.len() - 1;

@@ -1,13 +1,10 @@
 -- `fill::put_pieces` meets its contract.
 -- Assumes nothing.
 use Prim.Native.Nat.{_-_}
-use mathlib.Core.Path.{ap, _∙_}
+use mathlib.Core.Path.{_∙_}
 use native.Mathlib.Omega.{arith}
 use borrow.Author.Needs.{needs}
 use Rattle.fill.proofs.Pieces.{put-last}
-use Rattle.fill.proofs.Words.{no-length}
-use mathlib.Core.Bool.{false}
-use Rattle.descriptor.specs.Words.{readAt, lengthLine}
 use Rattle.fill.proofs.put_pieces.Statement.{statement}
 use Rattle.fill.proofs.put_pieces.Tie as tie
 
@@ -30,7 +27,7 @@ piece-word-requires-2 : tie.Need-piece-word-requires-2
 piece-word-requires-2 c κs = search needs
 
 put-leading-requires : tie.Need-put-leading-requires
-put-leading-requires c κs = (c .before .before .before .before .before .before .before .before .pre, ap (readAt lengthLine) (c .before .piece-word2 .ensures) ∙ no-length (c .before .before .before .before .before .before .before .before .args .request) false)
+put-leading-requires c κs = c .before .before .before .before .before .before .before .before .pre
 
 mul-put-slot : tie.Need-mul-put-slot
 mul-put-slot c = omega arith
