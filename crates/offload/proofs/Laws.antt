@@ -45,7 +45,7 @@ module _ (lengths : List ℕ) where
   lengths-sum e zero l = omega (arith, start-zero lengths)
   lengths-sum e (suc i) l = omega (arith, start-next lengths i, lengths-each e i l, lengths-sum e i (omega arith))
 
-most-is : (segmented : Bool) → mostPiecesOf segmented ≤ mostPieces
+pub most-is : (segmented : Bool) → mostPiecesOf segmented ≤ mostPieces
 most-is true = omega arith
 most-is false = omega arith
 

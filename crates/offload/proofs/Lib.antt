@@ -1,4 +1,5 @@
 pub mod Laws
+pub mod Passed
 pub mod Accepted
 pub mod Back
 pub mod Causes

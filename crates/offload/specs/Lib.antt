@@ -1,3 +1,4 @@
 pub mod Request
 pub mod Offload
 pub mod Accepted
+pub mod Walk

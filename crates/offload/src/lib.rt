@@ -5,7 +5,6 @@ use descriptor::Data;
 use rules::address_wrong;
 use segments::crowded;
 use segments::header_within;
-use segments::sum;
 ghost use mathlib.Core.Path.{_≡_};
 ghost use Prim.Native.Nat.{_≤_, _<_, _^_, min};
 ghost use lib.ListN.{length};
@@ -13,7 +12,8 @@ ghost use Rattle.rules.specs.Rules.{answerOf, inSteps};
 ghost use Rattle.segments.specs.Touch.{total};
 ghost use Rattle.descriptor.specs.Words.{dataWord, contextWord};
 ghost use Rattle.offload.specs.Request.{iiptOf, l4tOf, dataOf, contextOf};
-ghost use Rattle.offload.specs.Offload.{mostPiecesOf, sumLimit, lengthsOk, totalOk, piecesOk, addressesOk, ipLengthOk, l4LengthOk, headersOk, mssOk, segmentationOk, requestOk, Segmentable, isOver, sendChecks};
+ghost use Rattle.offload.specs.Walk.{Walkable, Looked, Totalled};
+ghost use Rattle.offload.specs.Offload.{mostPiecesOf, sumLimit, lengthsOk, totalOk, piecesOk, ipLengthOk, l4LengthOk, headersOk, mssOk, segmentationOk, requestOk, Segmentable, isOver, sendChecks};
 
 const MOST_LENGTH: u64 = 16383;
 
@@ -111,19 +111,6 @@ fn most_pieces(segmented: bool) -> usize
     if segmented { MOST_PIECES } else { PLAIN_PIECES }
 }
 
-fn lengths_ok(lengths: &[u64]) -> bool
-    ensures { λ r. ⌜ r ≡ lengthsOk (now (lengths .entry)) ⌝ }
-{
-    let mut ok = true;
-    let mut i = 0;
-    while i < lengths.len() {
-        let l = lengths[i];
-        ok = ((1 <= l) & (l <= MOST_LENGTH)) & ok;
-        i += 1;
-    }
-    ok
-}
-
 fn capped(n: u64) -> u64
     ensures { λ r. ⌜ r ≡ min n sumLimit ⌝ }
 {
@@ -145,33 +132,69 @@ fn total_ok(total: u64, maximum: u64, request: Request) -> bool
     }
 }
 
-fn pieces_ok(addresses: &[u64], lengths: &[u64], maximum: u64, request: Request) -> bool
-    ensures { λ r. ⌜ r ≡ piecesOk (now (addresses .entry)) (now (lengths .entry)) maximum request ⌝ }
+// ---- 6 and 2 in one walk
+
+// What one walk over the pieces finds: no cause of 6; then whether there is none of 2, and the bytes of all pieces.
+struct Found {
+    ok: bool,
+    reached: bool,
+    total: u64,
+}
+
+// The lengths and the addresses. It ends at the first length that is wrong.
+fn walk(addresses: &[u64], lengths: &[u64]) -> Found
+    requires { ⌜ Walkable (now addresses) (now lengths) ⌝ }
+    ensures { λ r. ⌜ Looked (lengthsOk (now (lengths .entry))) (now (addresses .entry)) (now (lengths .entry)) r ⌝ }
 {
-    let n = lengths.len();
-    let most = most_pieces(request.segmented);
-    let each = lengths_ok(lengths);
-    if (addresses.len() == n) & ((1 <= n) & (n <= most)) & each {
-        total_ok(sum(lengths, n), maximum, request)
-    } else {
-        false
+    let mut reached = true;
+    let mut total = 0;
+    let mut i = 0;
+    while i < lengths.len() {
+        let l = lengths[i];
+        if (1 <= l) & (l <= MOST_LENGTH) {
+            let wrong = address_wrong(addresses[i], l);
+            reached = !wrong & reached;
+            total += l;
+        } else {
+            return Found {
+                ok: false,
+                reached: false,
+                total: 0,
+            };
+        }
+        i += 1;
+    }
+    Found {
+        ok: true,
+        reached,
+        total,
     }
 }
 
-// ---- 2: an address is 0, or a piece passes the last byte
-
-fn addresses_ok(addresses: &[u64], lengths: &[u64]) -> bool
-    requires { ⌜ length (now lengths) ≤ length (now addresses) ⌝ }
-    ensures { λ r. ⌜ r ≡ addressesOk (now (addresses .entry)) (now (lengths .entry)) ⌝ }
+fn pieces(addresses: &[u64], lengths: &[u64], maximum: u64, request: Request) -> Found
+    ensures { λ r. ⌜ Looked (piecesOk (now (addresses .entry)) (now (lengths .entry)) maximum request) (now (addresses .entry)) (now (lengths .entry)) r ⌝ }
 {
-    let mut ok = true;
-    let mut i = 0;
-    while i < lengths.len() {
-        let wrong = address_wrong(addresses[i], lengths[i]);
-        ok = !wrong & ok;
-        i += 1;
+    let n = lengths.len();
+    let most = most_pieces(request.segmented);
+    if (addresses.len() == n) & ((1 <= n) & (n <= most)) {
+        let walked = walk(addresses, lengths);
+        if walked.ok {
+            let ok = total_ok(walked.total, maximum, request);
+            Found {
+                ok,
+                reached: walked.reached,
+                total: walked.total,
+            }
+        } else {
+            walked
+        }
+    } else {
+        Found {
+            ok: false,
+            reached: false,
+            total: 0,
+        }
     }
-    ok
 }
 
 // ---- 7: offload request wrong
@@ -253,16 +276,14 @@ fn segmentation_ok(lengths: &[u64], maximum: u64, header: u64, request: Request)
     }
 }
 
-fn request_ok(lengths: &[u64], maximum: u64, request: Request) -> bool
-    requires { ⌜ total (now lengths) < 2 ^ 64 ⌝ }
+fn request_ok(lengths: &[u64], total: u64, maximum: u64, request: Request) -> bool
+    requires { ⌜ Totalled (now lengths) total ⌝ }
     ensures { λ r. ⌜ r ≡ requestOk (now (lengths .entry)) maximum request ⌝ }
 {
     if headers_ok(request) {
         let header = request.mac_length + request.ip_length + request.l4_length;
         let tag = (request.tag <= MOST_TAG) & (request.vlan | (request.tag == 0));
-        (header <= sum(lengths, lengths.len()))
-            & tag
-            & segmentation_ok(lengths, maximum, header, request)
+        (header <= total) & tag & segmentation_ok(lengths, maximum, header, request)
     } else {
         false
     }
@@ -288,9 +309,10 @@ fn crowds(lengths: &[u64], request: Request) -> bool
 pub fn judge(addresses: &[u64], lengths: &[u64], maximum_frame: u64, request: Request) -> u8
     ensures { λ r. ⌜ r ≡ answerOf (sendChecks (now (addresses .entry)) (now (lengths .entry)) «maximum_frame» request) ⌝ }
 {
-    if pieces_ok(addresses, lengths, maximum_frame, request) {
-        if addresses_ok(addresses, lengths) {
-            if request_ok(lengths, maximum_frame, request) {
+    let p = pieces(addresses, lengths, maximum_frame, request);
+    if p.ok {
+        if p.reached {
+            if request_ok(lengths, p.total, maximum_frame, request) {
                 if crowds(lengths, request) { 8 } else { 0 }
             } else {
                 7

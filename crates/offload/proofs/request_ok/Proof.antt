@@ -22,17 +22,14 @@ add-header c = omega (arith, units (c .before))
 add-header-2 : tie.Need-add-header-2
 add-header-2 c = omega (arith, units (c .before .before))
 
-sum-requires : tie.Need-sum-requires
-sum-requires c κs = search needs
-
 segmentation-ok-requires : tie.Need-segmentation-ok-requires
 segmentation-ok-requires c κs = search needs
 
 returns : tie.Need-returns
 unfolding requestOk
 returns c =
-    let t = c .before .before .before .before .before .before .before in
-    rw (sym (t .before .headers-ok .ensures) ∙ t .if1 .taken, c .before .sum .ensures, c .segmentation-ok .ensures)
+    let t = c .before .before .before .before .before .before in
+    rw (sym (t .before .headers-ok .ensures) ∙ t .if1 .taken, t .before .before .before .pre .is, c .segmentation-ok .ensures)
 
 returns-2 : tie.Need-returns-2
 unfolding requestOk
@@ -45,7 +42,6 @@ request-ok-spec =
     headers-ok-requires
     add-header
     add-header-2
-    sum-requires
     segmentation-ok-requires
     returns
     returns-2)

@@ -1,0 +1,57 @@
+-- One walk over the pieces: what holds of those passed.
+-- Assumes nothing.
+use Prim.Native.Nat.{ℕ, _+_, _*_, _≤_, _<_}
+use mathlib.Core.Path.{_≡_, refl, sym, _∙_}
+use mathlib.Core.Bool.{Bool, true, false, not, _&&_}
+use mathlib.Core.List.{List}
+use native.Mathlib.Omega.{arith}
+use lib.Dec.{eqb}
+use lib.ListN.{length, getD}
+use borrow.Author.Tests.{eqb-true}
+use Rattle.rules.specs.Rules.{within, allBelow}
+use Rattle.rules.specs.Address.{addressWrong}
+use Rattle.rules.proofs.Tests.{both, and-both, within-is, all-none, all-more, all-no}
+use Rattle.segments.specs.Touch.{startOf, total}
+use Rattle.segments.proofs.Starts.{start-zero, start-step}
+use Rattle.offload.specs.Offload.{mostLength, mostPieces, mostPiecesOf, lengthsOk}
+use Rattle.offload.specs.Walk.{Walkable}
+use Rattle.offload.proofs.Laws.{most-is}
+
+module _ (addresses lengths : List ℕ) where
+  abbrev lengthAt : ℕ → Bool
+  lengthAt i = within 1 mostLength (getD lengths i 0)
+
+  abbrev addressAt : ℕ → Bool
+  addressAt i = not (addressWrong (getD addresses i 0) (getD lengths i 0))
+
+  pub record Passed (reached : Bool) (sum i : ℕ) : Type 0 where
+    pub upto : i ≤ length lengths
+    pub right : true ≡ allBelow i lengthAt
+    pub reached-is : reached ≡ allBelow i addressAt
+    pub sum-is : sum ≡ startOf lengths i
+    pub small : sum ≤ mostLength * i
+
+  pub first : Passed true 0 0
+  first = record { upto = omega arith; right = all-none _; reached-is = all-none _; sum-is = sym (start-zero lengths); small = omega arith }
+
+  pub next : {reached wrong : Bool} {sum i : ℕ} → Passed reached sum i → i < length lengths → lengthAt i ≡ true → wrong ≡ addressWrong (getD addresses i 0) (getD lengths i 0)
+      → Passed (not wrong && reached) (sum + getD lengths i 0) (i + 1)
+  next {reached} {wrong} {sum} {i} p l e f =
+      record {
+        upto = omega arith;
+        right = sym (and-both e refl) ∙ all-more lengthAt i (p .right);
+        reached-is = rw f (all-more addressAt i (p .reached-is));
+        sum-is = start-step lengths sum i (p .sum-is);
+        small = omega (arith, within-is 1 mostLength (getD lengths i 0) e);
+      }
+
+  -- a length that is wrong
+  pub stopped : (i : ℕ) → i < length lengths → lengthAt i ≡ false → false ≡ lengthsOk lengths
+  stopped i l e = sym (all-no lengthAt (length lengths) i l e)
+
+  -- the count of the pieces
+  pub walkable : (segmented : Bool) → eqb (length addresses) (length lengths) && within 1 (mostPiecesOf segmented) (length lengths) ≡ true → Walkable addresses lengths
+  walkable segmented e =
+      let b = both (eqb (length addresses) (length lengths)) (within 1 (mostPiecesOf segmented) (length lengths)) e in
+      let w = within-is 1 (mostPiecesOf segmented) (length lengths) (b .1) in
+      record { paired = omega (arith, eqb-true (length addresses) (length lengths) (b .0)); few = omega (arith, most-is segmented) }
