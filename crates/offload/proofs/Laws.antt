@@ -10,7 +10,7 @@ use lib.Dec.{leb, eqb}
 use lib.ListN.{length, getD}
 use Rattle.rules.specs.Rules.{within, inSteps}
 use Rattle.rules.proofs.Tests.{same, both, within-is, steps-is, all-each}
-use Rattle.segments.specs.Touch.{startOf, total, headerWithin}
+use Rattle.segments.specs.Touch.{sumLimit, startOf, total, headerWithin}
 use Rattle.segments.proofs.Starts.{start-zero, start-next}
 use Rattle.offload.specs.declared.IpKind.{IpKind}
 use Rattle.offload.specs.declared.IpKind.the-variants.{None as NoIp, Ipv6, Ipv4, Ipv4Checksum}
@@ -18,7 +18,7 @@ use Rattle.offload.specs.declared.L4Kind.{L4Kind}
 use Rattle.offload.specs.declared.L4Kind.the-variants.{None as NoL4, Tcp, Sctp, Udp}
 use Rattle.offload.specs.declared.Request.{Request}
 use Rattle.offload.specs.Request.{isNoIp, isNoL4, isTcp, hasChecksum, headerOf}
-use Rattle.offload.specs.Offload.{mostLength, plainPieces, mostPieces, mostHeader, mostTlen, leastMss, mostTag, sumLimit, mostPiecesOf, lengthsOk, totalOk, piecesOk, ipLengthOk, l4LengthOk, headersOk, tagOk, segmentedOk, segmentationOk, requestOk, Segmentable}
+use Rattle.offload.specs.Offload.{mostLength, plainPieces, mostPieces, mostHeader, mostTlen, leastMss, mostTag, mostPiecesOf, lengthsOk, totalOk, piecesOk, ipLengthOk, l4LengthOk, headersOk, tagOk, segmentedOk, segmentationOk, requestOk, Segmentable}
 use Rattle.offload.specs.Accepted.{Units, Sound}
 
 -- a number that equals one of two numbers exactly if it equals the other

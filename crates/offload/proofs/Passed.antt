@@ -11,9 +11,9 @@ use borrow.Author.Tests.{eqb-true}
 use Rattle.rules.specs.Rules.{within, allBelow}
 use Rattle.rules.specs.Address.{addressWrong}
 use Rattle.rules.proofs.Tests.{both, and-both, within-is, all-none, all-more, all-no}
-use Rattle.segments.specs.Touch.{startOf, total}
+use Rattle.segments.specs.Touch.{startOf}
 use Rattle.segments.proofs.Starts.{start-zero, start-step}
-use Rattle.offload.specs.Offload.{mostLength, mostPieces, mostPiecesOf, lengthsOk}
+use Rattle.offload.specs.Offload.{mostLength, mostPiecesOf, lengthsOk}
 use Rattle.offload.specs.Walk.{Walkable}
 use Rattle.offload.proofs.Laws.{most-is}
 

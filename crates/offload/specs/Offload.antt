@@ -41,10 +41,6 @@ leastMss = 88
 abbrev pub mostTag : ℕ
 mostTag = 65535
 
--- every total of pieces that are few and short enough is below this
-abbrev pub sumLimit : ℕ
-sumLimit = 2 ^ 32
-
 -- ---- 6
 
 -- plain: 1 to 8 pieces; segmented: 1 to 4,094

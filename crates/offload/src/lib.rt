@@ -9,11 +9,11 @@ ghost use mathlib.Core.Path.{_≡_};
 ghost use Prim.Native.Nat.{_≤_, _<_, _^_, min};
 ghost use lib.ListN.{length};
 ghost use Rattle.rules.specs.Rules.{answerOf, inSteps};
-ghost use Rattle.segments.specs.Touch.{total};
+ghost use Rattle.segments.specs.Touch.{sumLimit, total};
 ghost use Rattle.descriptor.specs.Words.{dataWord, contextWord};
 ghost use Rattle.offload.specs.Request.{iiptOf, l4tOf, dataOf, contextOf};
 ghost use Rattle.offload.specs.Walk.{Walkable, Looked, Totalled};
-ghost use Rattle.offload.specs.Offload.{mostPiecesOf, sumLimit, lengthsOk, totalOk, piecesOk, ipLengthOk, l4LengthOk, headersOk, mssOk, segmentationOk, requestOk, Segmentable, isOver, sendChecks};
+ghost use Rattle.offload.specs.Offload.{mostPiecesOf, lengthsOk, totalOk, piecesOk, ipLengthOk, l4LengthOk, headersOk, tagOk, mssOk, segmentedOk, segmentationOk, requestOk, Segmentable, isOver, sendChecks};
 
 const MOST_LENGTH: u64 = 16383;
 

@@ -1,15 +1,21 @@
 -- What the loop of `crowded` knows at its head, from its first turn to its answer. Assumes nothing.
-use Prim.Native.Nat.{ℕ, suc, _+_, _-_, _*_, _/_, _≤_, _<_}
-use mathlib.Core.Path.{_≡_}
+use Prim.Native.Nat.{ℕ, suc, _+_, _-_, _*_, _/_, _≤_, _<_, min}
+use mathlib.Core.Path.{_≡_, _∙_}
 use mathlib.Core.Bool.{true, false}
 use mathlib.Core.List.{List}
 use native.Mathlib.Omega.{arith}
 use native.Mathlib.Numerals.{add-one}
+use native.Mathlib.Nat.{div-eq-of-lt, zero-mul}
+use native.Mathlib.Decide.{decLt}
 use borrow.Author.Count.{below-more}
 use lib.ListN.{length, getD}
-use Rattle.segments.specs.Touch.{mostTouched, headerPieces, startOf, isCrowded, Checked, Headed}
+use Rattle.segments.specs.Touch.{mostTouched, headerPieces, sumLimit, startOf, isCrowded, Checked, Headed}
 use Rattle.segments.proofs.Starts.{start-next, start-up, start-whole}
 use Rattle.segments.proofs.Window.{Window, window-is, yes-window, no-window}
+
+-- a byte of the payload begins the same segment, whether a segment goes on past the payload or not
+same-start : (mss tlen s : ℕ) {r : ℕ} → s < tlen → r ≡ min mss tlen → s / r * r ≡ s / mss * mss
+same-start mss tlen s {r} l e = elim (decLt mss tlen) [ yes m ↦ (let p : r ≡ mss = omega arith in rw p) | no n ↦ (let p : r ≡ tlen = omega arith in rw (p, div-eq-of-lt l, div-eq-of-lt {n = s} {m = mss} (omega arith), zero-mul, zero-mul)) ]
 
 -- `end` and `start` are the payload's bytes up to the end of piece i and before piece i + (mostTouched - head); no run before i has the window's test
 pub record Swept (ls : List ℕ) (header mss tlen head i end start : ℕ) : Type 0 where
@@ -52,6 +58,17 @@ module _ {ls : List ℕ} {header mss tlen head : ℕ} where
       pub sweep-room : (e + getD ls (i + 1) 0 ≤ tlen) × (s + getD ls (i + (mostTouched - head)) 0 ≤ tlen)
       sweep-room =
           (rw add-one (omega (arith, start-whole ls (suc i) (omega arith))), omega (arith, start-whole ls (i + (mostTouched - head)) more))
+
+      -- the payload goes on past piece i + (mostTouched - head)
+      sweep-inside : s < tlen
+      sweep-inside = omega (arith, sweep-room, w .ok .each (i + (mostTouched - head)) more)
+
+      -- it begins in the segment that the code finds
+      pub sweep-fits : {step : ℕ} → step ≡ min mss tlen → (s < sumLimit) × (1 ≤ step)
+      sweep-fits p = (omega (arith, sweep-inside, w .ok), omega (arith, sweep-inside, w .ok))
+
+      pub sweep-start : {step b : ℕ} → step ≡ min mss tlen → b ≡ s / step * step → b ≡ s / mss * mss
+      sweep-start p q = q ∙ same-start mss tlen s sweep-inside p
 
       pub sweep-next : e ≤ s / mss * mss → Swept ls header mss tlen head (i + 1) (e + getD ls (i + 1) 0) (s + getD ls (i + (mostTouched - head)) 0)
       sweep-next t =

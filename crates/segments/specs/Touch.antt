@@ -15,6 +15,10 @@ mostTouched = 8
 abbrev pub headerPieces : ℕ
 headerPieces = 3
 
+-- every total of pieces that are few and short enough is below this
+abbrev pub sumLimit : ℕ
+sumLimit = 2 ^ 32
+
 -- how many of 0, 1, .. n - 1 pass a test
 unfoldable pub countBelow : ℕ → (ℕ → Bool) → ℕ
 countBelow zero t = 0
@@ -71,7 +75,7 @@ pub record Summed (ls : List ℕ) (n : ℕ) : Type 0 where
 -- what the checks before have shown of a segmented send
 pub record Checked (ls : List ℕ) (header mss tlen : ℕ) : Type 0 where
   pub whole : total ls ≡ header + tlen
-  pub small : total ls < 2 ^ 64
+  pub small : total ls < sumLimit
   pub each : (i : ℕ) → i < length ls → 1 ≤ getD ls i 0
   pub within : header ≤ startOf ls headerPieces
   pub spaced : 1 ≤ mss

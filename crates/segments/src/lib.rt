@@ -1,9 +1,9 @@
 // Answer 8 of a segmented send: whether some segment touches over 8 pieces, in one walk over the pieces and with no loop
 // over the segments. The functions here are called by a send that has made the checks before; what these have shown is required.
 ghost use mathlib.Core.Path.{_≡_};
-ghost use Prim.Native.Nat.{_≤_, _<_, _^_};
+ghost use Prim.Native.Nat.{_*_, _/_, _≤_, _<_, _^_, min};
 ghost use lib.ListN.{length};
-ghost use Rattle.segments.specs.Touch.{headerPieces, startOf, total, headerWithin, isCrowded, Summed, Checked, Headed};
+ghost use Rattle.segments.specs.Touch.{headerPieces, sumLimit, startOf, total, headerWithin, isCrowded, Summed, Checked, Headed};
 
 // A segment may touch this many pieces.
 const MOST_TOUCHED: usize = 8;
@@ -52,6 +52,22 @@ fn header_pieces(lengths: &[u64], header: u64) -> usize
     i
 }
 
+// The bytes of a segment, where there are several. One that is longer than the payload is as good as one of its length.
+fn spacing(mss: u64, tlen: u64) -> u32
+    requires { ⌜ tlen < sumLimit ⌝ }
+    ensures { λ r. ⌜ r ≡ min mss tlen ⌝ }
+{
+    if mss < tlen { mss as u32 } else { tlen as u32 }
+}
+
+// The first byte of the segment that holds a byte. All totals have 32 bits, so that the division need not have more.
+fn segment_start(byte: u64, step: u32) -> u64
+    requires { ⌜ (byte < sumLimit) × (1 ≤ step) ⌝ }
+    ensures { λ r. ⌜ r ≡ byte / step * step ⌝ }
+{
+    byte - (byte as u32 % step) as u64
+}
+
 // Whether some segment touches over 8 pieces. The run of payload pieces i to i + gap makes 9 with the pieces of the header. One
 // segment touches them all exactly if the segment that holds the first byte of the run's last piece begins before its first
 // piece ends. `start` and `end` are the payload's bytes before that last piece and up to the end of that first one.
@@ -64,11 +80,12 @@ pub fn crowded(lengths: &[u64], header: u64, mss: u64, tlen: u64) -> bool
     }
     let head = header_pieces(lengths, header);
     let gap = MOST_TOUCHED - head;
+    let step = spacing(mss, tlen);
     let mut i = head;
     let mut end = sum(lengths, head + 1) - header;
     let mut start = sum(lengths, MOST_TOUCHED) - header;
     while i + gap < lengths.len() {
-        if start / mss * mss < end {
+        if segment_start(start, step) < end {
             return true;
         }
         start += lengths[i + gap];
