@@ -15,6 +15,7 @@ use receive::RxQueue;
 use row::put_row;
 use sum::sum_of;
 use writeback::Family;
+use writeback::WriteBack;
 
 pub(crate) struct Rx {
     pub(crate) queue: RxQueue,
@@ -115,7 +116,8 @@ fn post(
     Received { rx, next }
 }
 
-fn family_number(family: Family) -> u64 {
+fn family_number(last: WriteBack) -> u64 {
+    let family = last.family;
     match family {
         Family::Unknown => 0,
         Family::Mac => 1,
@@ -130,7 +132,6 @@ fn take_row(answer: u8, queue: RxQueue, packet: Packet) -> [u64; 32] {
     let last = packet.last;
     let a = packet.addresses;
     let l = packet.lengths;
-    let family = last.family;
     [
         from_byte(answer),
         wide(queue.head),
@@ -163,7 +164,7 @@ fn take_row(answer: u8, queue: RxQueue, packet: Packet) -> [u64; 32] {
         bit(last.l4e),
         bit(last.oversize),
         from_byte(last.ptype),
-        family_number(family),
+        family_number(last),
     ]
 }
 

@@ -157,8 +157,6 @@ fn send(
         behind(SEND_NUMBERS, place(numbers, 11)),
         place(numbers, 12),
     );
-    let asked = request(numbers);
-    let token = at(numbers, 0);
     let r = lent(ring, tx.ring);
     let t = lent(tokens, tx.tokens);
     let c = lent_counts(counts, tx.counts);
@@ -168,8 +166,8 @@ fn send(
         &mut counts[..c],
         addresses,
         lengths,
-        token,
-        asked,
+        at(numbers, 0),
+        request(numbers),
     );
     let queue = sent.queue;
     let row = [

@@ -25,21 +25,18 @@ use Rattle.transmit.proofs.Laws.{lent-same}
 
 -- ---- one check alone: fresh, and a number asked of a record, answer 1 exactly if a line is broken
 
+-- whatever is given back, if its number is 0 where the test says yes and 1 where it says no
+one-check : {A : Type 0} (number : A → ℕ) (b : Bool) (x y : A) → number x ≡ 0 → number y ≡ 1 → number (cond b x y) ≡ answerOf (1 when not b ∷ [])
+one-check number true x y p r = p
+one-check number false x y p r = r
+
 pub fresh-answer : (queue size frame : ℕ) → freshOf queue size frame .answer ≡ answerOf (1 when not (numbersOk queue size frame) ∷ [])
 unfolding freshOf
-fresh-answer queue size frame = either (numbersOk queue size frame) (emptyQueue queue size frame) (emptyQueue 0 0 0)
-  where
-    either : (b : Bool) (q z : TxQueue) → cond {A = Fresh} b (record { answer = 0; queue = q }) (record { answer = 1; queue = z }) .answer ≡ answerOf (1 when not b ∷ [])
-    either true q z = refl
-    either false q z = refl
+fresh-answer queue size frame = one-check (λ (f : Fresh). f .answer) (numbersOk queue size frame) (record { answer = 0; queue = emptyQueue queue size frame }) (record { answer = 1; queue = emptyQueue 0 0 0 }) refl refl
 
 pub asked-answer : (q : TxQueue) (n : ℕ) → askedOf q n .answer ≡ answerOf (1 when not (recordOk q) ∷ [])
 unfolding askedOf
-asked-answer q n = either (recordOk q)
-  where
-    either : (b : Bool) → cond {A = Asked} b (record { answer = 0; value = n }) (record { answer = 1; value = 0 }) .answer ≡ answerOf (1 when not b ∷ [])
-    either true = refl
-    either false = refl
+asked-answer q n = one-check (λ (a : Asked). a .answer) (recordOk q) (record { answer = 0; value = n }) (record { answer = 1; value = 0 }) refl refl
 
 -- ---- reclaim: 1, 4, 5, 4
 
