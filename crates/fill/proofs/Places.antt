@@ -1,6 +1,6 @@
 -- Which descriptor of a send stands where: piece i comes after as many slots as i pieces take, and the context descriptor first.
 -- Assumes nothing.
-use Prim.Native.Nat.{ℕ, _+_, _-_, _≤_, _<_}
+use Prim.Native.Nat.{ℕ, _+_, _-_, _<_}
 use mathlib.Core.Path.{_≡_, refl, ap}
 use mathlib.Core.Bool.{Bool, true, false, cond}
 use mathlib.Core.List.{List}
@@ -12,20 +12,13 @@ use Rattle.offload.specs.declared.Request.{Request}
 use Rattle.offload.specs.Request.{slotsOf}
 use Rattle.fill.specs.Descriptors.{pieceNumbers, contextNumbers, descriptor}
 
--- one more piece takes one more slot, and a send takes a slot for each piece and at most one more
+-- more pieces take more slots
 pub slots-more : (request : Request) {i n : ℕ} → i < n → slotsOf request i < slotsOf request n
 slots-more request {i} {n} l = go (request .segmented)
   where
     go : (b : Bool) → cond b (i + 1) i < cond b (n + 1) n
     go true = omega arith
     go false = l
-
-pub slots-some : (request : Request) (n : ℕ) → n ≤ slotsOf request n
-slots-some request n = go (request .segmented)
-  where
-    go : (b : Bool) → n ≤ cond b (n + 1) n
-    go true = omega arith
-    go false = omega arith
 
 module _ (request : Request) (addresses lengths : List ℕ) where
   pub two-words : (k : ℕ) → length (descriptor request addresses lengths k) ≡ 2

@@ -22,8 +22,9 @@ use Rattle.ring.proofs.Steps.{slot-below, apart}
 use Rattle.ring.proofs.Rows.{row-length, row-other}
 use Rattle.offload.specs.declared.Request.{Request}
 use Rattle.offload.specs.Request.{slotsOf}
+use Rattle.offload.proofs.Accepted.{slots-are}
 use Rattle.fill.specs.Descriptors.{descriptor}
-use Rattle.fill.proofs.Places.{two-words, slots-some}
+use Rattle.fill.proofs.Places.{two-words}
 use Rattle.transmit.specs.declared.TxQueue.{TxQueue}
 use Rattle.transmit.specs.declared.Fresh.{Fresh}
 use Rattle.transmit.specs.declared.Sent.{Sent}
@@ -136,7 +137,7 @@ module _ (q : TxQueue) (ring tokens counts addresses lengths : List ℕ) (token 
           let free : (j : ℕ) → j < slotsOf request (length lengths) → slotOf q k ≢ slotAt (tailOf q) (q .size) j = λ j h e.
           apart (q .head) (q .size) k (q .posted + j) l (omega (arith, s .room, s .lent-is .is .place)) (λ d. ⊎-elim (λ a. omega arith) (λ a. omega arith) out)
           (e ∙ mod-add-mod (q .head + q .posted) (q .size) j ∙ ap (λ (m : ℕ). m % q .size) (omega arith)) in
-          let tail : slotOf q k ≢ tailOf q = apart (q .head) (q .size) k (q .posted) l (omega (arith, s .lent-is .is .place)) (λ d. ⊎-elim (λ a. omega arith) (λ a. omega (arith, s .own .some, slots-some request (length lengths))) out) in
+          let tail : slotOf q k ≢ tailOf q = apart (q .head) (q .size) k (q .posted) l (omega (arith, s .lent-is .is .place)) (λ d. ⊎-elim (λ a. omega arith) (λ a. omega (arith, s .own .some, slots-are request (length lengths))) out) in
           record {
             words-same = rw e (row-other 2 (q .size) (descriptor request addresses lengths) ring (tailOf q) (two-words request addresses lengths) (slotsOf request (length lengths)) (slotOf q k) free);
             token-same = rw e (getD-set-other tokens (tailOf q) (slotOf q k) token 0 tail);

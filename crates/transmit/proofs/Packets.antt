@@ -15,7 +15,7 @@ use Rattle.rules.proofs.Checks.{passes}
 use Rattle.ring.proofs.Steps.{slot-below}
 use Rattle.offload.specs.declared.Request.{Request}
 use Rattle.offload.specs.Request.{slotsOf}
-use Rattle.fill.proofs.Places.{slots-some}
+use Rattle.offload.proofs.Accepted.{slots-are}
 use Rattle.transmit.specs.declared.TxQueue.{TxQueue}
 use Rattle.transmit.specs.Queue.{lentOk, slotOf, tailOf, movedTo}
 use Rattle.transmit.specs.Send.{answerTo, sendOf, tokensAfter, countsAfter}
@@ -72,7 +72,7 @@ module _ (q : TxQueue) (ring tokens counts addresses lengths : List ℕ) (token 
       reclaims q′ ring′ tokens′ counts′ slots token
       (ap (λ (s : ℕ). getD counts′ s 0) h ∙ c ∙ count-stored)
       (ap (λ (s : ℕ). getD tokens′ s 0) h ∙ t ∙ token-stored)
-      l (omega (arith, facts .own .some, slots-some request (length lengths))) p m
+      l (omega (arith, facts .own .some, slots-are request (length lengths))) p m
 
   -- of a queue that was empty, and any ring so long in which the device has marked the packet's last slot
   pub first-reclaimed : q .posted ≡ 0 → (ring′ : List ℕ) → length ring′ ≡ length ring → isMarked ring′ (slotOf q (slots - 1)) ≡ true

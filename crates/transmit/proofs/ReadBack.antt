@@ -18,9 +18,10 @@ use Rattle.descriptor.specs.Words.{typeLine, readAt, dataWord, readData, contex
 use Rattle.descriptor.proofs.Bits.{data-type, context-type}
 use Rattle.offload.specs.declared.Request.{Request}
 use Rattle.offload.specs.Request.{slotsOf, dataOf, contextOf, requestOf}
+use Rattle.offload.proofs.Accepted.{slots-are}
 use Rattle.offload.proofs.Back.{piece-back, segmentation-back, request-back}
 use Rattle.fill.specs.Descriptors.{isLast, pieceNumbers, contextNumbers, descriptor}
-use Rattle.fill.proofs.Places.{two-words, context-first, piece-at, slots-more, slots-some}
+use Rattle.fill.proofs.Places.{two-words, context-first, piece-at, slots-more}
 use Rattle.transmit.specs.declared.TxQueue.{TxQueue}
 use Rattle.transmit.specs.Queue.{tailOf}
 use Rattle.transmit.specs.Send.{answerTo, slotsTaken, ringAfter}
@@ -69,7 +70,7 @@ module _ (q : TxQueue) (ring tokens counts addresses lengths : List ℕ) (token 
   first-reads : numbersAt 2 after (tailOf q) ≡ descriptor request addresses lengths 0
   first-reads =
       ap (numbersAt 2 after) (sym first-slot)
-      ∙ slot-reads 0 (omega (arith, facts .own .some, slots-some request n))
+      ∙ slot-reads 0 (omega (arith, facts .own .some, slots-are request n))
 
   context-says : request .segmented ≡ true → (word0 after (tailOf q) ≡ 0) × (word1 after (tailOf q) ≡ contextWord (contextOf request))
   context-says t =
