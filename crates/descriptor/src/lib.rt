@@ -20,7 +20,7 @@ const IPLEN: u64 = 23;
 
 const L4LEN: u64 = 30;
 
-const LENGTH: u64 = 34;
+pub const LENGTH: u64 = 34;
 
 const TAG: u64 = 48;
 
@@ -34,7 +34,7 @@ const FOUR_BITS: u64 = 0xf;
 
 const SEVEN_BITS: u64 = 0x7f;
 
-const FOURTEEN_BITS: u64 = 0x3fff;
+pub const FOURTEEN_BITS: u64 = 0x3fff;
 
 const SIXTEEN_BITS: u64 = 0xffff;
 

@@ -7,14 +7,11 @@ ghost use Rattle.ring.specs.Memory.{store, storeRun};
 ghost use Rattle.offload.specs.Request.{slotsOf};
 ghost use Rattle.fill.specs.Descriptors.{pieceNumbers, descriptor};
 ghost use Rattle.fill.specs.Room.{Room, leadingNumbers};
+use descriptor::FOURTEEN_BITS;
+use descriptor::LENGTH;
 use offload::Request;
 use offload::piece_word;
 use offload::segmentation_word;
-
-// The length of a piece in word 1 of its descriptor.
-const LENGTH: u64 = 34;
-
-const LENGTH_BITS: u64 = 0x3fff;
 
 // The two words of a slot.
 fn put_slot(ring: &mut [u64], slot: usize, first: u64, second: u64)
@@ -45,7 +42,7 @@ fn put_leading(
             ring,
             slot,
             addresses[i],
-            alike | (lengths[i] & LENGTH_BITS) << LENGTH,
+            alike | (lengths[i] & FOURTEEN_BITS) << LENGTH,
         );
         i += 1;
     }

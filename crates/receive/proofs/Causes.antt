@@ -7,7 +7,7 @@ use mathlib.Core.Bool.{Bool, true, false, not, cond}
 use mathlib.Core.List.{List, [], _∷_}
 use lib.ListN.{length}
 use Rattle.rules.specs.Rules.{Check, _when_, answerOf, Answers}
-use Rattle.rules.proofs.Checks.{has-cause, is-answered}
+use Rattle.rules.proofs.Checks.{has-cause, is-answered, one-check}
 use Rattle.writeback.specs.WriteBack.{dd, eop}
 use Rattle.receive.specs.declared.RxQueue.{RxQueue}
 use Rattle.receive.specs.declared.Fresh.{Fresh}
@@ -21,19 +21,11 @@ use Rattle.receive.specs.Take.{lengthOk, endOk, Look, refuse, whole, and
 
 pub fresh-answer : (queue size buffer : ℕ) → freshOf queue size buffer .answer ≡ answerOf (1 when not (numbersOk queue size buffer) ∷ [])
 unfolding freshOf
-fresh-answer queue size buffer = either (numbersOk queue size buffer) (emptyQueue queue size buffer) (emptyQueue 0 0 0)
-  where
-    either : (b : Bool) (q z : RxQueue) → cond {A = Fresh} b (record { answer = 0; queue = q }) (record { answer = 1; queue = z }) .answer ≡ answerOf (1 when not b ∷ [])
-    either true q z = refl
-    either false q z = refl
+fresh-answer queue size buffer = one-check (λ (f : Fresh). f .answer) (numbersOk queue size buffer) (record { answer = 0; queue = emptyQueue queue size buffer }) (record { answer = 1; queue = emptyQueue 0 0 0 }) refl refl
 
 pub asked-answer : (q : RxQueue) (n : ℕ) → askedOf q n .answer ≡ answerOf (1 when not (recordOk q) ∷ [])
 unfolding askedOf
-asked-answer q n = either (recordOk q)
-  where
-    either : (b : Bool) → cond {A = Asked} b (record { answer = 0; value = n }) (record { answer = 1; value = 0 }) .answer ≡ answerOf (1 when not b ∷ [])
-    either true = refl
-    either false = refl
+asked-answer q n = one-check (λ (a : Asked). a .answer) (recordOk q) (record { answer = 0; value = n }) (record { answer = 1; value = 0 }) refl refl
 
 -- ---- post: 1, 2, 3
 

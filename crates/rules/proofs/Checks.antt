@@ -7,7 +7,7 @@ use mathlib.Core.List.{List, [], _∷_}
 use native.Mathlib.Omega.{arith}
 use borrow.Author.Tests.{eqb-false}
 use lib.Dec.{T, eqb}
-use Rattle.rules.specs.Rules.{Check, answerOf, nth, refusing, Answers}
+use Rattle.rules.specs.Rules.{Check, _when_, answerOf, nth, refusing, Answers}
 
 -- a check that comes after one whose cause does not hold
 later : (c : Check) (cs : List Check) (n i : ℕ) → c .cause ≡ false → Answers cs n i → Answers (c ∷ cs) n (suc i)
@@ -47,6 +47,11 @@ is-answered (c ∷ cs) n (suc i) a =
       cause-holds = a .cause-holds;
       none-before = λ j h. a .none-before (suc j) (omega arith);
     }))
+
+-- a call with one check: whatever is given back, if its number is 0 where the test says yes and 1 where it says no
+pub one-check : {A : Type 0} (number : A → ℕ) (b : Bool) (x y : A) → number x ≡ 0 → number y ≡ 1 → number (cond b x y) ≡ answerOf (1 when not b ∷ [])
+one-check number true x y p r = p
+one-check number false x y p r = r
 
 -- 0 is answered exactly where no cause holds
 pub passed : (cs : List Check) → T (refusing cs) → answerOf cs ≡ 0 → (i : ℕ) → nth cs i .cause ≡ false

@@ -4,13 +4,13 @@
 use Prim.Native.Nat.{ℕ, zero, suc, _≤_, _<_}
 use mathlib.Core.Path.{_≡_, refl}
 use mathlib.Core.Logic.{_≢_}
-use mathlib.Core.Bool.{Bool, true, false, not, cond}
+use mathlib.Core.Bool.{true, false, not}
 use mathlib.Core.List.{List, [], _∷_}
 use native.Mathlib.Omega.{arith}
 use borrow.Author.Tests.{le-ltb, not-false}
 use lib.ListN.{length}
 use Rattle.rules.specs.Rules.{Check, _when_, answerOf, nth, Answers}
-use Rattle.rules.proofs.Checks.{has-cause, is-answered, passed, passes}
+use Rattle.rules.proofs.Checks.{has-cause, is-answered, one-check, passed, passes}
 use Rattle.segments.specs.Touch.{mostTouched, touched}
 use Rattle.offload.specs.declared.Request.{Request}
 use Rattle.offload.specs.Request.{slotsOf}
@@ -24,11 +24,6 @@ use Rattle.transmit.specs.Reclaim.{reclaimChecks, reclaimAnswer}
 use Rattle.transmit.proofs.Laws.{lent-same}
 
 -- ---- one check alone: fresh, and a number asked of a record, answer 1 exactly if a line is broken
-
--- whatever is given back, if its number is 0 where the test says yes and 1 where it says no
-one-check : {A : Type 0} (number : A → ℕ) (b : Bool) (x y : A) → number x ≡ 0 → number y ≡ 1 → number (cond b x y) ≡ answerOf (1 when not b ∷ [])
-one-check number true x y p r = p
-one-check number false x y p r = r
 
 pub fresh-answer : (queue size frame : ℕ) → freshOf queue size frame .answer ≡ answerOf (1 when not (numbersOk queue size frame) ∷ [])
 unfolding freshOf
