@@ -34,7 +34,7 @@ const FOUR_BITS: u64 = 0xf;
 
 const SEVEN_BITS: u64 = 0x7f;
 
-pub const FOURTEEN_BITS: u64 = 0x3fff;
+const FOURTEEN_BITS: u64 = 0x3fff;
 
 const SIXTEEN_BITS: u64 = 0xffff;
 

@@ -8,10 +8,10 @@ use native.Mathlib.Nat.{add-zero, mod-eq-of-lt}
 use native.Mathlib.Numerals.{add-one}
 use native.Mathlib.Omega.{arith}
 use borrow.Author.Tests.{eq-eqb, ne-eqb}
-use lib.Bits.{bitAnd, bitOr}
+use lib.Bits.{bitOr}
+use lib.Pow.{shl-exact}
 use lib.ListN.{length, getD}
 use Rattle.field.specs.Field.{placed, wordOf}
-use Rattle.field.proofs.Laws.{masked}
 use Rattle.ring.specs.Slots.{slotAt}
 use Rattle.ring.specs.Memory.{store, storeRun}
 use Rattle.ring.proofs.Rows.{row-more}
@@ -24,16 +24,17 @@ use Rattle.fill.proofs.Rows.{row-agree, row-first}
 use Rattle.fill.proofs.Words.{with-length}
 use Rattle.fill.proofs.Places.{context-first, piece-at}
 
--- one piece more before the last, as the loop goes on: `alike | (length & mask) << 34`
+-- one piece more before the last, as the loop goes on: `alike | length << 34`
 pub put-next : (alike : ℕ) (addresses lengths : List ℕ) (size start : ℕ) (ring : List ℕ) (i : ℕ) {slot : ℕ} {ring₁ ring₂ : List ℕ}
     → ring₁ ≡ storeRun 2 size (leadingNumbers alike addresses lengths) ring start i
     → slot ≡ slotAt start size i
-    → ring₂ ≡ store 2 ring₁ slot (getD addresses i 0 ∷ bitOr alike (bitAnd (getD lengths i 0) (2 ^ 14 - 1) * 2 ^ 34 % 2 ^ 64) ∷ [])
+    → getD lengths i 0 < 2 ^ 14
+    → ring₂ ≡ store 2 ring₁ slot (getD addresses i 0 ∷ bitOr alike (getD lengths i 0 * 2 ^ 34 % 2 ^ 64) ∷ [])
     → ring₂ ≡ storeRun 2 size (leadingNumbers alike addresses lengths) ring start (i + 1)
-put-next alike addresses lengths size start ring i {slot} {ring₁} {ring₂} r s p =
+put-next alike addresses lengths size start ring i {slot} {ring₁} {ring₂} r s h p =
     let f = leadingNumbers alike addresses lengths in
     let l : ℕ = getD lengths i 0 in
-    let word : bitAnd l (2 ^ 14 - 1) * 2 ^ 34 % 2 ^ 64 ≡ wordOf (lengthLine l ∷ []) = masked {p = lengthLine l} tt .is ∙ sym (add-zero (placed 34 14 l)) in
+    let word : l * 2 ^ 34 % 2 ^ 64 ≡ wordOf (lengthLine l ∷ []) = shl-exact 14 34 64 h (omega arith) ∙ ap (λ (x : ℕ). x * 2 ^ 34) (sym (mod-eq-of-lt h)) ∙ sym (add-zero (placed 34 14 l)) in
     p
     ∙ ap (λ (w : ℕ). store 2 ring₁ slot (getD addresses i 0 ∷ bitOr alike w ∷ [])) word
     ∙ ap₂ (λ (m : List ℕ) (t : ℕ). store 2 m t (f i)) r s

@@ -1,6 +1,6 @@
 -- What the descriptors of a send need to be stored: facts that an accepted send has shown.
 -- Assumes nothing.
-use Prim.Native.Nat.{ℕ, _*_, _≤_, _<_}
+use Prim.Native.Nat.{ℕ, _*_, _^_, _≤_, _<_}
 use mathlib.Core.Path.{_≡_}
 use mathlib.Core.List.{List, [], _∷_}
 use lib.Bits.{bitOr}
@@ -17,6 +17,7 @@ pub record Room (ring addresses lengths : List ℕ) (size start slots : ℕ) : T
   pub paired : length addresses ≡ length lengths
   pub some : 1 ≤ length lengths
   pub fewer : slots < size
+  pub short : (i : ℕ) → i < length lengths → getD lengths i 0 < 2 ^ 14
 
 -- a piece before the last one: word 1 is what is alike on all of them, joined with the piece's length
 abbrev pub leadingNumbers : ℕ → List ℕ → List ℕ → ℕ → List ℕ

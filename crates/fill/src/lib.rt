@@ -7,7 +7,6 @@ ghost use Rattle.ring.specs.Memory.{store, storeRun};
 ghost use Rattle.offload.specs.Request.{slotsOf};
 ghost use Rattle.fill.specs.Descriptors.{pieceNumbers, descriptor};
 ghost use Rattle.fill.specs.Room.{Room, leadingNumbers};
-use descriptor::FOURTEEN_BITS;
 use descriptor::LENGTH;
 use offload::Request;
 use offload::piece_word;
@@ -38,12 +37,7 @@ fn put_leading(
     let mut i = 0;
     while i < last {
         let slot = ring::slot(start, size, i);
-        put_slot(
-            ring,
-            slot,
-            addresses[i],
-            alike | (lengths[i] & FOURTEEN_BITS) << LENGTH,
-        );
+        put_slot(ring, slot, addresses[i], alike | lengths[i] << LENGTH);
         i += 1;
     }
 }

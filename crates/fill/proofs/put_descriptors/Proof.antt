@@ -34,6 +34,7 @@ put-pieces-requires c κs =
       paired = r .paired;
       some = r .some;
       fewer = omega (arith, fewer d);
+      short = r .short;
     }
 
 put-pieces-requires-2 : tie.Need-put-pieces-requires-2

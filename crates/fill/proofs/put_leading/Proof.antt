@@ -52,7 +52,7 @@ loop-again : tie.Need-loop-again Inv-loop μ-loop
 loop-again c =
     let a = c .before .before .before .before .before .before .before .before in
     let s = a .before .before .before .before in
-    (omega arith, put-next (s .args .alike) (s .args .addresses .now) (s .args .lengths .now) (s .args .size) (s .args .start) (s .args .ring .now) (a .loop .i) (a .loop .inv .1) (c .before .before .before .before .before .before .slot .ensures .is) (c .before .before .put-slot .ensures))
+    (omega arith, put-next (s .args .alike) (s .args .addresses .now) (s .args .lengths .now) (s .args .size) (s .args .start) (s .args .ring .now) (a .loop .i) (a .loop .inv .1) (c .before .before .before .before .before .before .slot .ensures .is) (s .pre .short (a .loop .i) (omega arith)) (c .before .before .put-slot .ensures))
 
 same-length : tie.Need-same-length Inv-loop μ-loop
 same-length c = ap length (c .before .loop .inv .1) ∙ row-length 2 _ _ _ _ (c .before .loop .i)

@@ -1,6 +1,5 @@
 -- `rounds::interrupting::rounds` is safe, and ends: each turn leaves fewer. Assumes nothing.
 use Prim.Native.Nat.{_≤_, _-_}
-use lib.ListN.{length}
 use borrow.Author.Needs.{needs}
 use Rattle.rounds.proofs.interrupting.rounds.Statement.{statement}
 use Rattle.rounds.proofs.interrupting.rounds.Tie as tie

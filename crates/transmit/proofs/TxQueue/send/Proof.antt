@@ -44,6 +44,7 @@ put-descriptors-requires c κs =
       paired = r .own .paired;
       some = r .own .some;
       fewer = omega (arith, r .room, r .lent-is .is .place);
+      short = λ i l. omega (arith, r .own .each i l);
     }
 
 mul-tokens : tie.Need-mul-tokens
