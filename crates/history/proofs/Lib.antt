@@ -5,4 +5,4 @@ pub mod Run
 pub mod Late
 pub mod Demand
 pub mod Stale
-mod Examples
+pub mod Examples

@@ -3,3 +3,4 @@ pub mod History
 pub mod Late
 pub mod Demand
 pub mod Stale
+pub mod Examples
