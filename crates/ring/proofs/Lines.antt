@@ -1,13 +1,16 @@
 -- What an accepted queue number, size, head and posted are.
 -- Assumes nothing.
-use Prim.Native.Nat.{ℕ, _≤_}
+use Prim.Native.Nat.{ℕ, _^_, _≤_, _<_}
 use mathlib.Core.Path.{_≡_}
 use mathlib.Core.Bool.{true}
+use native.Mathlib.Omega.{arith}
 use borrow.Author.Tests.{ltb-true, leb-true}
 use lib.Dec.{leb, ltb}
 use Rattle.rules.specs.Rules.{inSteps}
 use Rattle.rules.proofs.Tests.{both, steps-is}
-use Rattle.ring.specs.Sizes.{mostQueue, leastSize, mostSize, sizeStep, queueOk, placeOk, Placed}
+use Rattle.ring.specs.Slots.{tailAt}
+use Rattle.ring.specs.Sizes.{mostQueue, leastSize, mostSize, sizeStep, queueOk, placeOk, Placed, tailBits}
+use Rattle.ring.proofs.Steps.{slot-below}
 
 -- a size within its line is not small
 pub size-least : (queue size : ℕ) → queueOk queue size ≡ true → leastSize ≤ size
@@ -25,3 +28,7 @@ placed queue size head posted e f =
       head-below = ltb-true _ _ (p .0);
       posted-below = ltb-true _ _ (p .1);
     }
+
+-- the tail fits its field
+pub tail-fits : {queue size head posted : ℕ} → Placed queue size head posted → tailAt head size posted < 2 ^ tailBits
+tail-fits {queue} {size} {head} {posted} p = omega (arith, slot-below head size posted (omega arith), p .size-high)

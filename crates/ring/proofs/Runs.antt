@@ -4,7 +4,7 @@ use Prim.Native.Nat.{ℕ, zero, suc, _+_, _-_, _%_, _≤_, _<_}
 use mathlib.Core.Path.{_≡_, refl, sym, ap, _∙_}
 use mathlib.Core.Logic.{_≢_}
 use mathlib.Core.List.{List, [], _∷_, _++_}
-use native.Mathlib.Nat.{zero-add, mod-mod, suc-mod, add-suc, suc-add, add-zero, sub-zero, zero-sub, suc-sub-suc}
+use native.Mathlib.Nat.{mod-mod, suc-mod, add-suc, suc-add, add-zero, sub-zero, zero-sub, suc-sub-suc}
 use native.Mathlib.Decide.{ℕ-discrete}
 use native.Mathlib.Omega.{arith}
 use lib.ListN.{length, getD, set, take, drop, length-set}
@@ -33,12 +33,7 @@ module _ {A : Type 0} (at : ℕ → A) (size : ℕ) where
       (ap (λ (r : List A). at (i % size) ∷ r)
       (sym (run-mod (suc (i % size)) n) ∙ ap (λ (k : ℕ). run at size k n) (sym (suc-mod i size)) ∙ run-mod (suc i) n))
 
-  -- a run split at a place
-  pub run-split : (i n m : ℕ) → run at size i (n + m) ≡ run at size i n ++ run at size (i + n) m
-  unfolding run
-  run-split i zero m = rw (add-zero, zero-add)
-  run-split i (suc n) m = rw suc-add (ap (λ (r : List A). at (i % size) ∷ r) (run-split (suc i) n m ∙ rw (suc-add, ← add-suc)))
-
+  -- a run with one slot more
   pub run-snoc : (i n : ℕ) → run at size i (suc n) ≡ run at size i n ++ (at ((i + n) % size) ∷ [])
   unfolding run
   run-snoc i zero = rw add-zero

@@ -1,3 +1,4 @@
 pub mod Slots
 pub mod Memory
 pub mod Sizes
+pub mod Steps

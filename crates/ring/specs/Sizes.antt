@@ -32,3 +32,7 @@ pub record Placed (queue size head posted : ℕ) : Type 0 where
   pub size-high : size ≤ mostSize
   pub head-below : head < size
   pub posted-below : posted < size
+
+-- the tail field is 13 bits
+abbrev pub tailBits : ℕ
+tailBits = 13

@@ -1,7 +1,6 @@
 -- The slots of a ring (01, "The queue record"): the slot at a distance, the tail, which slots are the device's.
 -- Assumes nothing.
-use Prim.Native.Nat.{ℕ, zero, suc, _+_, _-_, _%_, _≤_, _<_}
-use mathlib.Core.Path.{_≡_}
+use Prim.Native.Nat.{ℕ, zero, suc, _+_, _-_, _%_}
 use mathlib.Core.Bool.{Bool}
 use mathlib.Core.List.{List, [], _∷_}
 use lib.Dec.{ltb}
@@ -25,18 +24,6 @@ isDevices head size posted s = ltb (distance head size s) posted
 -- no ring has more slots than this: what keeps the step within a machine's number, whatever the size that a queue allows
 abbrev pub mostSlots : ℕ
 mostSlots = 65536
-
--- what the step asks: head is a slot, and the distance is less than a lap
-pub record Step (head size k : ℕ) : Type 0 where
-  pub head-below : head < size
-  pub near : k < size
-  pub size-high : size ≤ mostSlots
-
--- what it says of its result
-pub record SlotIs (head size k r : ℕ) : Type 0 where
-  pub is : r ≡ slotAt head size k
-  pub below : r < size
-  pub small : size ≤ mostSlots
 
 -- n slots from number i upward, round a ring of a size: what `at` reads of each, the oldest first
 unfoldable pub run {ℓ} : {A : Type ℓ} → (ℕ → A) → ℕ → ℕ → ℕ → List A

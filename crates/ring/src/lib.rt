@@ -1,6 +1,6 @@
 // What every ring shares: the lines on its queue number, size and places, and the step from head to the slot at a distance.
 ghost use mathlib.Core.Path.{_≡_};
-ghost use Rattle.ring.specs.Slots.{SlotIs, Step};
+ghost use Rattle.ring.specs.Steps.{SlotIs, Step};
 ghost use Rattle.ring.specs.Sizes.{queueOk, placeOk};
 
 const QUEUE_MOST: usize = 3;
