@@ -1,4 +1,5 @@
 pub mod Slots
 pub mod Memory
 pub mod Sizes
+pub mod Queue
 pub mod Steps

@@ -1,0 +1,53 @@
+-- The queue record (01), the part that the receive and the transmit queue share: queue number, size, head, posted. Each queue's own record
+-- holds it beside a number of its own.
+-- Assumes nothing.
+use Prim.Native.Nat.{ℕ, _+_, _-_, _*_, _≤_, _<_}
+use mathlib.Core.Bool.{Bool, _&&_, cond}
+use lib.Dec.{ltb}
+use Rattle.ring.specs.declared.Queue.{Queue}
+use Rattle.ring.specs.declared.Asked.{Asked}
+use Rattle.ring.specs.Slots.{slotAt, distance}
+use Rattle.ring.specs.Sizes.{mostQueue, leastSize, mostSize, queueOk, placeOk}
+
+-- queue number and size, head and posted keep their lines
+abbrev pub sharedOk : Queue → Bool
+sharedOk q = queueOk (q .queue) (q .size) && placeOk (q .size) (q .head) (q .posted)
+
+-- what these lines say, as facts
+pub record Shared (q : Queue) : Type 0 where
+  pub queue-high : q .queue ≤ mostQueue
+  pub size-low : leastSize ≤ q .size
+  pub size-high : q .size ≤ mostSize
+  pub head-below : q .head < q .size
+  pub posted-below : q .posted < q .size
+
+-- the slot at a distance from head; tail = (head + posted) mod size
+abbrev pub slotOf : Queue → ℕ → ℕ
+slotOf q k = slotAt (q .head) (q .size) k
+
+abbrev pub tailOf : Queue → ℕ
+tailOf q = slotOf q (q .posted)
+
+-- a slot is the device's exactly if its distance from head is less than posted
+abbrev pub isDevices : Queue → ℕ → Bool
+isDevices q s = ltb (distance (q .head) (q .size) s) (q .posted)
+
+-- a fresh queue: head 0 and posted 0
+abbrev pub emptyQueue : ℕ → ℕ → Queue
+emptyQueue queue size = record { queue = queue; size = size; head = 0; posted = 0 }
+
+-- head moves on by a count, posted falls by it
+abbrev pub advanced : Queue → ℕ → Queue
+advanced q n = record { queue = q .queue; size = q .size; head = slotOf q n; posted = q .posted - n }
+
+-- posted grows by a count
+abbrev pub grown : Queue → ℕ → Queue
+grown q n = record { queue = q .queue; size = q .size; head = q .head; posted = q .posted + n }
+
+-- a number asked of a record: of one that is not accepted, 1 and 0
+unfoldable pub askedOf : Bool → ℕ → Asked
+askedOf ok n = cond ok (record { answer = 0; value = n }) (record { answer = 1; value = 0 })
+
+-- the tail register of a queue stands at 4 x queue after that of queue 0
+abbrev pub registerAt : ℕ → ℕ → ℕ
+registerAt first queue = first + 4 * queue
