@@ -1,19 +1,20 @@
--- The bits of the words one by one: which are always 0, which always 1, where the word ends, and what two pieces of one send share.
+-- The bits of the words one by one: which are always 0, which always 1, and what two pieces of one send share.
 -- Assumes nothing.
-use Prim.Native.Nat.{ℕ, _+_, _%_, _^_, _<_}
+use Prim.Native.Nat.{ℕ, _+_, _%_, _^_}
 use mathlib.Core.Path.{_≡_, sym, ap, _∙_}
 use mathlib.Core.Bool.{Bool, true, false}
-use mathlib.Core.List.{List, [], _∷_}
+use mathlib.Core.List.{[], _∷_}
 use native.Mathlib.Nat.{mod-lt}
 use native.Mathlib.Omega.{arith}
 use lib.Dec.{T}
 use lib.Pow.{pow-pos}
 use mir.Facts.{and-yes}
-use Rattle.field.specs.Field.{Part, fieldOf, apart, free, bit, placed}
-use Rattle.field.proofs.Laws.{reads, reads-free, word-below, put-apart}
+use Rattle.field.specs.Field.{fieldOf, placed, Line, readAt, apart, free, bit}
+use Rattle.field.proofs.Laws.{reads, reads-free, put-apart}
 use Rattle.descriptor.specs.declared.Data.{Data}
 use Rattle.descriptor.specs.declared.Context.{Context}
-use Rattle.descriptor.specs.Words.{typeLine, crcLine, tsoLine, eopLine, rsLine, lengthLine, readAt, dataParts, dataWord, pieceOf, contextParts, contextWord}
+use Rattle.descriptor.specs.Words.{typeLine, crcLine, tsoLine, eopLine, rsLine, lengthLine, dataParts, dataWord, pieceOf, contextParts, contextWord}
+pub use Rattle.descriptor.specs.Words.{own}
 
 module _ (d : Data) where
   -- a field that no line of the table shares a bit with is 0: 8, 11 and 15:14
@@ -29,9 +30,6 @@ module _ (d : Data) where
   pub data-crc : readAt crcLine (dataWord d) ≡ 1
   data-crc = reads (dataParts d) tt 3 tt
 
-  pub data-below : dataWord d < 2 ^ 64
-  data-below = word-below (dataParts d) tt
-
 module _ (x : Context) where
   pub context-free : (at k : ℕ) → T (free at k (contextParts x)) → fieldOf at k (contextWord x) ≡ 0
   context-free at k t = reads-free at k (contextParts x) tt t
@@ -45,18 +43,13 @@ module _ (x : Context) where
   pub context-tso : readAt tsoLine (contextWord x) ≡ 1
   context-tso = reads (contextParts x) tt 1 tt
 
-  pub context-below : contextWord x < 2 ^ 64
-  context-below = word-below (contextParts x) tt
-
 -- ---- the pieces of one send
 
 -- one line of a word more, and a field that it does not share
-one-line : {w : ℕ} (a n v w₀ at k : ℕ) → w ≡ w₀ + placed a n v → fieldOf a n w₀ ≡ 0 → T (apart a n at k) → fieldOf at k w ≡ fieldOf at k w₀
-one-line a n v w₀ at k e z t = ap (λ (x : ℕ). fieldOf at k x) e ∙ put-apart a n (v % 2 ^ n) w₀ at k z (mod-lt v (pow-pos n)) t
-
--- what a piece has of its own
-abbrev pub own : List Part
-own = eopLine 0 ∷ rsLine 0 ∷ lengthLine 0 ∷ []
+one-line : {w : ℕ} (l : Line) (v w₀ at k : ℕ) → w ≡ w₀ + placed (l 0 .at) (l 0 .width) v → readAt l w₀ ≡ 0 → T (apart (l 0 .at) (l 0 .width) at k) → fieldOf at k w ≡ fieldOf at k w₀
+one-line l v w₀ at k e z t =
+    let n : ℕ = l 0 .width in
+    ap (λ (x : ℕ). fieldOf at k x) e ∙ put-apart (l 0 .at) n (v % 2 ^ n) w₀ at k z (mod-lt v (pow-pos n)) t
 
 abbrev marked : Data → ℕ → Bool → Bool → Data
 marked d length eop rs =
@@ -68,9 +61,9 @@ module _ (d : Data) (at k : ℕ) (t : T (free at k own)) where
       let a = and-yes (apart 4 1 at k) (free at k (rsLine 0 ∷ lengthLine 0 ∷ [])) t in
       let b = and-yes (apart 5 1 at k) (free at k (lengthLine 0 ∷ [])) (a .1) in
       let c = and-yes (apart 34 14 at k) true (b .1) in
-      one-line 4 1 (bit eop) (dataWord (marked d length false rs)) at k (omega arith) (reads (dataParts (marked d length false rs)) tt 1 tt) (a .0)
-      ∙ one-line 5 1 (bit rs) (dataWord (marked d length false false)) at k (omega arith) (reads (dataParts (marked d length false false)) tt 2 tt) (b .0)
-      ∙ one-line 34 14 length (dataWord (marked d 0 false false)) at k (omega arith) (reads (dataParts (marked d 0 false false)) tt 10 tt) (c .0)
+      one-line eopLine (bit eop) (dataWord (marked d length false rs)) at k (omega arith) (reads (dataParts (marked d length false rs)) tt 1 tt) (a .0)
+      ∙ one-line rsLine (bit rs) (dataWord (marked d length false false)) at k (omega arith) (reads (dataParts (marked d length false false)) tt 2 tt) (b .0)
+      ∙ one-line lengthLine length (dataWord (marked d 0 false false)) at k (omega arith) (reads (dataParts (marked d 0 false false)) tt 10 tt) (c .0)
 
   -- two pieces of one send read alike at every field that shares no bit with length, EOP and RS
   pub pieces-alike : (length length′ : ℕ) (last last′ : Bool) → fieldOf at k (dataWord (pieceOf d length last)) ≡ fieldOf at k (dataWord (pieceOf d length′ last′))

@@ -1,28 +1,14 @@
--- The document's examples of transmit words, and every field at both of its ends.
+-- Every field of the words at both of its ends, computed; that all numbers between them read back too is `data-back` and `context-back`.
 -- Assumes nothing.
 use mathlib.Core.Path.{_≡_, refl}
 use mathlib.Core.Bool.{Bool, true, false, not, _&&_, cond}
 use mathlib.Core.List.{List, [], _∷_}
-use Prim.Native.Nat.{ℕ, zero, suc, _-_, _/_, _^_}
+use Prim.Native.Nat.{ℕ, zero, suc, _-_, _^_}
 use lib.Dec.{eqb}
 use lib.ListN.{length}
 use Rattle.field.specs.Field.{Part, part, fieldOf, wordOf}
 use Rattle.descriptor.specs.declared.Data.{Data}
 use Rattle.descriptor.specs.Words.{dataParts, dataWord, readData, contextParts, contextWord, readContext}
-
--- 60 bytes plain, one piece
-pub plain-60 : dataWord (record { eop = true; rs = true; il2tag1 = false; iipt = 0; l4t = 0; maclen = 0; iplen = 0; l4len = 0; length = 60; tag = 0 }) ≡ 0x0000_00F0_0000_0070
-plain-60 = refl
-
--- 1,000 bytes, headers 14, 20 and 20, IPv4 with checksum, TCP
-pub tcp-1000 : dataWord (record { eop = true; rs = true; il2tag1 = false; iipt = 3; l4t = 1; maclen = 14 / 2; iplen = 20 / 4; l4len = 20 / 4; length = 1000; tag = 0 }) ≡ 0x0000_0FA1_4287_1670
-tcp-1000 = refl
-
--- TLEN 3,000, MSS 1,460
-pub context-3000 : contextWord (record { tlen = 3000; mss = 1460 }) ≡ 0x16D0_02EE_0000_0011
-context-3000 = refl
-
--- ---- every number at a field's ends; that all numbers between them read back too is `data-back` and `context-back`
 
 -- the highest number of a line
 abbrev top : Part → ℕ

@@ -1,16 +1,12 @@
 -- Word 1 of transmit descriptors (01, "Sending"): a word is a table, and each line of it is a position, a width and a value.
 -- Assumes nothing.
-use Prim.Native.Nat.{ℕ, _^_, _<_}
+use Prim.Native.Nat.{ℕ}
 use mathlib.Core.Bool.{Bool}
 use mathlib.Core.List.{List, [], _∷_}
-use lib.Dec.{eqb}
-use Rattle.field.specs.Field.{Part, part, wordOf, fieldOf, bit}
+use Rattle.field.specs.Field.{Part, part, Line, isSet, Fits, wordOf, bit}
+pub use Rattle.field.specs.Field.{readAt}
 use Rattle.descriptor.specs.declared.Data.{Data}
 use Rattle.descriptor.specs.declared.Context.{Context}
-
--- a line of a table, still without its value
-abbrev pub Line : Type 0
-Line = ℕ → Part
 
 -- bits 3:0 of both kinds
 abbrev pub typeLine : Line
@@ -59,16 +55,6 @@ tlenLine v = part 30 18 v
 
 abbrev pub mssLine : Line
 mssLine v = part 50 14 v
-
--- what a word reads as at a line, and a number that fits there
-abbrev pub readAt : Line → ℕ → ℕ
-readAt l w = fieldOf (l 0 .at) (l 0 .width) w
-
-abbrev pub isSet : Line → ℕ → Bool
-isSet l w = eqb (readAt l w) 1
-
-abbrev pub Fits : Line → ℕ → Type 0
-Fits l n = n < 2 ^ l 0 .width
 
 -- type 0, and the CRC command is always 1
 abbrev pub dataParts : Data → List Part
@@ -129,6 +115,10 @@ pieceOf d length last =
       length = length;
       tag = d .tag;
     }
+
+-- what a piece has of its own: EOP, RS and its length
+abbrev pub own : List Part
+own = eopLine 0 ∷ rsLine 0 ∷ lengthLine 0 ∷ []
 
 -- type 1, and TSO is always 1
 abbrev pub contextParts : Context → List Part

@@ -5,15 +5,15 @@ use mathlib.Core.Bool.{Bool, true, false}
 use mathlib.Core.Logic.{⊎-elim}
 use mathlib.Core.List.{List, [], _∷_}
 use Prim.Native.Nat.{ℕ, zero, suc, _+_, _-_, _*_, _/_, _%_, _^_, _≤_, _<_}
-use native.Mathlib.Nat.{div-eq-of-lt, mul-one, one-mul, add-comm, add-zero, zero-add, zero-mul, mul-assoc, mul-comm, mod-lt, mod-eq-of-lt, add-mul-mod-self-right, add-mul-div-right, lt-of-lt-of-le, le-of-suc-le-suc, not-suc-le-zero}
+use native.Mathlib.Nat.{div-eq-of-lt, mul-one, add-comm, add-zero, zero-add, zero-mul, mul-assoc, mul-comm, mod-lt, mod-eq-of-lt, add-mul-mod-self-right, add-mul-div-right, lt-of-lt-of-le, le-of-suc-le-suc, not-suc-le-zero}
 use native.Mathlib.Omega.{arith}
 use lib.Arith.{digits-lt}
-use lib.Dec.{T, lit<, leb, ltb, ltb→lt, leb→le, eqb}
+use lib.Dec.{T, leb, ltb, ltb→lt, leb→le, eqb}
 use lib.Bits.{bitAnd, bitOr, and-mask, or-shifted-r}
-use lib.ListN.{length, getD}
+use lib.ListN.{length}
 use lib.Pow.{pow-pos, pow-mono, pow-add, shr-shr, split, high, shl-exact, mod-pow-add}
 use mir.Facts.{and-yes, or-yes}
-use Rattle.field.specs.Field.{fieldOf, placed, replaced, Part, part, wordOf, rising, endOf, apart, free, bit}
+use Rattle.field.specs.Field.{fieldOf, placed, replaced, Part, part, nth, Line, readAt, Fits, wordOf, rising, endOf, apart, free, bit}
 
 gap : {a b : ℕ} → a ≤ b → b ≡ a + (b - a)
 gap h = omega arith
@@ -75,9 +75,6 @@ above j (p ∷ ps) t =
     let r = above (a + k) ps (and-yes (leb j a) (rising (a + k) ps) t .1) in
     let e : 2 ^ a ≡ 2 ^ (a - j) * 2 ^ j = ap (λ (x : ℕ). 2 ^ x) (gap (leb→le j a (and-yes (leb j a) (rising (a + k) ps) t .0)) ∙ add-comm j (a - j)) ∙ pow-add 2 (a - j) j in
     ((v + r .0 * 2 ^ k) * 2 ^ (a - j), ap (λ (x : ℕ). v * 2 ^ a + x) (r .1) ∙ stack v (r .0) a k ∙ ap (λ (x : ℕ). (v + r .0 * 2 ^ k) * x) e ∙ sym (mul-assoc (v + r .0 * 2 ^ k) (2 ^ (a - j)) (2 ^ j)))
-
-abbrev nth : List Part → ℕ → Part
-nth ps i = getD ps i (part 0 0 0)
 
 -- what stands below the next field, after one more
 grown : (at k v : ℕ) {lo : ℕ} → lo < 2 ^ at → placed at k v + lo < 2 ^ (at + k)
@@ -200,13 +197,9 @@ flagged-low b = record { code = bit b; is = sym (ap (λ (x : ℕ). x * 2 ^ 0) (b
 abbrev pub literal : {p : Part} → Code p
 literal {p} = record { code = placed (p .at) (p .width) (p .value); is = refl }
 
--- `1 << k` at 64 bits
-pub one-shl : (k : ℕ) → k < 64 → 1 * 2 ^ k % 2 ^ 64 ≡ 2 ^ k
-one-shl k h = shl-exact 1 k 64 (lit< tt) (omega arith) ∙ one-mul (2 ^ k)
-
 -- `(w >> at) & mask`
-pub got : (at k w : ℕ) → bitAnd (w / 2 ^ at) (2 ^ k - 1) ≡ fieldOf at k w
-got at k w = and-mask (w / 2 ^ at) k
+pub got : (l : Line) (w : ℕ) → bitAnd (w / 2 ^ l 0 .at) (2 ^ l 0 .width - 1) ≡ readAt l w
+got l w = and-mask (w / 2 ^ l 0 .at) (l 0 .width)
 
 eqb-bit : (b : Bool) → eqb (bit b % 2 ^ 1) 1 ≡ b
 eqb-bit true = refl
@@ -216,8 +209,8 @@ eqb-bit false = refl
 pub flag-back : {n : ℕ} (b : Bool) → n ≡ bit b % 2 ^ 1 → eqb n 1 ≡ b
 flag-back b e = ap (λ (x : ℕ). eqb x 1) e ∙ eqb-bit b
 
-pub fit-back : {n v : ℕ} (k : ℕ) → v < 2 ^ k → n ≡ v % 2 ^ k → n ≡ v
-fit-back k h e = e ∙ mod-eq-of-lt h
+pub fit-back : {n v : ℕ} (l : Line) → Fits l v → n ≡ v % 2 ^ l 0 .width → n ≡ v
+fit-back l h e = e ∙ mod-eq-of-lt h
 
 -- ---- a word with another value in one field
 

@@ -1,9 +1,10 @@
 -- Bit fields of a word, over position and width. Bits count from 0 at the low end.
 -- Assumes nothing.
-use Prim.Native.Nat.{ℕ, _+_, _*_, _/_, _%_, _^_}
+use Prim.Native.Nat.{ℕ, _+_, _*_, _/_, _%_, _^_, _<_}
 use mathlib.Core.Bool.{Bool, true, false, _&&_, _||_}
 use mathlib.Core.List.{List, [], _∷_}
 use lib.Dec.{leb, eqb}
+use lib.ListN.{getD}
 
 -- what a word reads as at a position and a width
 abbrev pub fieldOf : ℕ → ℕ → ℕ → ℕ
@@ -25,6 +26,24 @@ pub record Part : Type 0 where
 
 abbrev pub part : ℕ → ℕ → ℕ → Part
 part a k v = record { at = a; width = k; value = v }
+
+-- line i of a table
+abbrev pub nth : List Part → ℕ → Part
+nth ps i = getD ps i (part 0 0 0)
+
+-- a line of a table, still without its value
+abbrev pub Line : Type 0
+Line = ℕ → Part
+
+-- what a word reads as at a line, as a number and as a flag, and a number that fits there
+abbrev pub readAt : Line → ℕ → ℕ
+readAt l w = fieldOf (l 0 .at) (l 0 .width) w
+
+abbrev pub isSet : Line → ℕ → Bool
+isSet l w = eqb (readAt l w) 1
+
+abbrev pub Fits : Line → ℕ → Type 0
+Fits l n = n < 2 ^ l 0 .width
 
 -- the word of a table: the sum of its placed values
 abbrev pub wordOf : List Part → ℕ

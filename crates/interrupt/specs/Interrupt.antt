@@ -5,23 +5,37 @@ use Prim.Native.Nat.{ℕ, _+_, _-_, _*_, _/_, _%_}
 use mathlib.Core.Bool.{Bool, true, false, not, _&&_, cond}
 use mathlib.Core.List.{List, [], _∷_}
 use lib.Dec.{ltb, eqb}
-use Rattle.rules.specs.Rules.{anyOf}
-use Rattle.field.specs.Field.{Part, part, wordOf, fieldOf, flagOf, bit}
+use Rattle.rules.specs.Rules.{Check, each, answerOf}
+use Rattle.field.specs.Field.{Part, part, Line, readAt, isSet, wordOf, bit}
 use Rattle.interrupt.specs.declared.Enable.{Enable}
 use Rattle.interrupt.specs.declared.Enable.the-variants.{On, Off, Leave}
 use Rattle.interrupt.specs.declared.Request.{Request}
 use Rattle.interrupt.specs.declared.Answer.{Answer}
 use Rattle.interrupt.specs.declared.Fields.{Fields}
 
--- the largest vector, index, and interval in microseconds
+-- the largest vector and index, and the index that stands for no ITR
 abbrev pub mostVector : ℕ
 mostVector = 64
 
 abbrev pub mostIndex : ℕ
 mostIndex = 3
 
+abbrev pub noItr : ℕ
+noItr = 3
+
+-- the largest interval in microseconds, and the register's unit
 abbrev pub mostInterval : ℕ
 mostInterval = 8160
+
+abbrev pub intervalUnit : ℕ
+intervalUnit = 2
+
+-- the registers of vector 0 and of vector 1
+abbrev pub dynCtl0 : ℕ
+dynCtl0 = 0x5C00
+
+abbrev pub dynCtlN : ℕ
+dynCtlN = 0x3800
 
 abbrev pub isOn : Enable → Bool
 isOn On = true
@@ -38,7 +52,7 @@ isLeave On = false
 isLeave Off = false
 isLeave Leave = true
 
--- answer 9: vector above 64, an index above 3, an interval out of range or odd, an interval not 0 with index 3, a trigger index
+-- the causes of 9: vector above 64, an index above 3, an interval out of range or odd, an interval not 0 with index 3, a trigger index
 -- not 0 without a trigger, write-back-on-ITR with on or leave
 abbrev pub wrongs : Request → List Bool
 wrongs q =
@@ -46,59 +60,52 @@ wrongs q =
     ∷ ltb mostIndex (q .index)
     ∷ ltb mostIndex (q .«trigger_index»)
     ∷ ltb mostInterval (q .interval)
-    ∷ not (eqb (q .interval % 2) 0)
-    ∷ (not (eqb (q .interval) 0) && eqb (q .index) 3)
+    ∷ not (eqb (q .interval % intervalUnit) 0)
+    ∷ (not (eqb (q .interval) 0) && eqb (q .index) noItr)
     ∷ (not (eqb (q .«trigger_index») 0) && not (q .trigger))
     ∷ (q .«write_back» && not (isOff (q .enable)))
     ∷ []
 
-abbrev pub wrongOf : Request → Bool
-wrongOf q = anyOf (wrongs q)
+-- a check for each of them
+abbrev pub interruptChecks : Request → List Check
+interruptChecks q = each 9 (wrongs q)
+
+abbrev pub interruptAnswer : Request → ℕ
+interruptAnswer q = answerOf (interruptChecks q)
 
 -- vector 0 at 0x5C00, vectors 1 to 64 at 0x3800 + 4 x (vector - 1)
 abbrev pub offsetOf : ℕ → ℕ
-offsetOf v = cond (eqb v 0) 0x5C00 (0x3800 + 4 * (v - 1))
+offsetOf v = cond (eqb v 0) dynCtl0 (dynCtlN + 4 * (v - 1))
 
--- INTENA, CLEARPBA, SWINT_TRIG, ITR_INDX, INTERVAL in 2 microsecond units, SW_ITR_INDX_ENA (set by a trigger), SW_ITR_INDX,
--- WB_ON_ITR, INTENA_MSK
-abbrev pub lines : Request → List Part
-lines q =
-    part 0 1 (bit (isOn (q .enable)))
-    ∷ part 1 1 (bit (q .clear))
-    ∷ part 2 1 (bit (q .trigger))
-    ∷ part 3 2 (q .index)
-    ∷ part 5 12 (q .interval / 2)
-    ∷ part 24 1 (bit (q .trigger))
-    ∷ part 25 2 (q .«trigger_index»)
-    ∷ part 30 1 (bit (q .«write_back»))
-    ∷ part 31 1 (bit (isLeave (q .enable)))
-    ∷ []
+-- the register's fields
+abbrev pub intenaLine : Line
+intenaLine v = part 0 1 v
 
-abbrev pub interruptWord : Request → ℕ
-interruptWord q = wordOf (lines q)
+abbrev pub clearpbaLine : Line
+clearpbaLine v = part 1 1 v
 
--- a wrong request gets 9 and zeros
-unfoldable pub interruptOf : Request → Answer
-interruptOf q =
-    cond (wrongOf q) (record { answer = 9; offset = 0; word = 0 })
-    (record { answer = 0; offset = offsetOf (q .vector); word = interruptWord q })
+abbrev pub swintTrigLine : Line
+swintTrigLine v = part 2 1 v
 
--- a word, read field for field
-unfoldable pub fieldsOf : ℕ → Fields
-fieldsOf w =
-    record {
-      intena = flagOf 0 w;
-      clearpba = flagOf 1 w;
-      «swint_trig» = flagOf 2 w;
-      «itr_indx» = fieldOf 3 2 w;
-      interval = fieldOf 5 12 w;
-      «sw_itr_indx_ena» = flagOf 24 w;
-      «sw_itr_indx» = fieldOf 25 2 w;
-      «wb_on_itr» = flagOf 30 w;
-      «intena_msk» = flagOf 31 w;
-    }
+abbrev pub itrIndxLine : Line
+itrIndxLine v = part 3 2 v
 
--- what an accepted request's word says
+abbrev pub intervalLine : Line
+intervalLine v = part 5 12 v
+
+abbrev pub swItrIndxEnaLine : Line
+swItrIndxEnaLine v = part 24 1 v
+
+abbrev pub swItrIndxLine : Line
+swItrIndxLine v = part 25 2 v
+
+abbrev pub wbOnItrLine : Line
+wbOnItrLine v = part 30 1 v
+
+abbrev pub intenaMskLine : Line
+intenaMskLine v = part 31 1 v
+
+-- what a request asks of each: leave sets INTENA_MSK, INTENA 0; a trigger sets SW_ITR_INDX_ENA; INTERVAL is in 2 microsecond units
 abbrev pub told : Request → Fields
 told q =
     record {
@@ -106,11 +113,51 @@ told q =
       clearpba = q .clear;
       «swint_trig» = q .trigger;
       «itr_indx» = q .index;
-      interval = q .interval / 2;
+      interval = q .interval / intervalUnit;
       «sw_itr_indx_ena» = q .trigger;
       «sw_itr_indx» = q .«trigger_index»;
       «wb_on_itr» = q .«write_back»;
       «intena_msk» = isLeave (q .enable);
+    }
+
+abbrev pub lines : Fields → List Part
+lines f =
+    intenaLine (bit (f .intena))
+    ∷ clearpbaLine (bit (f .clearpba))
+    ∷ swintTrigLine (bit (f .«swint_trig»))
+    ∷ itrIndxLine (f .«itr_indx»)
+    ∷ intervalLine (f .interval)
+    ∷ swItrIndxEnaLine (bit (f .«sw_itr_indx_ena»))
+    ∷ swItrIndxLine (f .«sw_itr_indx»)
+    ∷ wbOnItrLine (bit (f .«wb_on_itr»))
+    ∷ intenaMskLine (bit (f .«intena_msk»))
+    ∷ []
+
+abbrev pub interruptWord : Request → ℕ
+interruptWord q = wordOf (lines (told q))
+
+-- the answer, and where it is 0 the register's offset and word; zeros come with 9
+unfoldable pub interruptOf : Request → Answer
+interruptOf q =
+    record {
+      answer = interruptAnswer q;
+      offset = cond (eqb (interruptAnswer q) 0) (offsetOf (q .vector)) 0;
+      word = cond (eqb (interruptAnswer q) 0) (interruptWord q) 0;
+    }
+
+-- a word, read field for field
+unfoldable pub fieldsOf : ℕ → Fields
+fieldsOf w =
+    record {
+      intena = isSet intenaLine w;
+      clearpba = isSet clearpbaLine w;
+      «swint_trig» = isSet swintTrigLine w;
+      «itr_indx» = readAt itrIndxLine w;
+      interval = readAt intervalLine w;
+      «sw_itr_indx_ena» = isSet swItrIndxEnaLine w;
+      «sw_itr_indx» = readAt swItrIndxLine w;
+      «wb_on_itr» = isSet wbOnItrLine w;
+      «intena_msk» = isSet intenaMskLine w;
     }
 
 -- what INTENA and INTENA_MSK ask for, and the vector of a register's offset
@@ -118,7 +165,7 @@ abbrev pub enableOf : Bool → Bool → Enable
 enableOf intena masked = cond masked Leave (cond intena On Off)
 
 abbrev pub vectorAt : ℕ → ℕ
-vectorAt offset = cond (eqb offset 0x5C00) 0 ((offset - 0x3800) / 4 + 1)
+vectorAt offset = cond (eqb offset dynCtl0) 0 ((offset - dynCtlN) / 4 + 1)
 
 -- the request that a register's offset and fields stand for
 abbrev pub requestAt : ℕ → Fields → Request
@@ -131,5 +178,5 @@ requestAt offset f =
       trigger = f .«swint_trig»;
       «trigger_index» = f .«sw_itr_indx»;
       index = f .«itr_indx»;
-      interval = 2 * f .interval;
+      interval = intervalUnit * f .interval;
     }

@@ -1,7 +1,8 @@
 // Interrupt control words: a request becomes a register's offset and the word to write there.
 ghost use mathlib.Core.Path.{_≡_};
 ghost use Prim.Native.Nat.{_≤_};
-ghost use Rattle.interrupt.specs.Interrupt.{isOn, isOff, isLeave, mostVector, wrongOf, offsetOf, interruptWord, interruptOf, fieldsOf};
+ghost use Rattle.rules.specs.Rules.{anyOf};
+ghost use Rattle.interrupt.specs.Interrupt.{isOn, isOff, isLeave, mostVector, wrongs, offsetOf, interruptWord, interruptOf, fieldsOf};
 
 // What becomes of the enable bit.
 pub enum Enable {
@@ -46,15 +47,41 @@ const VECTOR_MOST: u64 = 64;
 
 const INDEX_MOST: u64 = 3;
 
-const INTERVAL_MOST: u64 = 8160;
-
 // The index that stands for no ITR, and so has no interval.
 const NO_ITR: u64 = 3;
+
+// In microseconds, as is the register's unit.
+const INTERVAL_MOST: u64 = 8160;
+
+const INTERVAL_UNIT: u64 = 2;
 
 // The registers of vector 0 and of vector 1; the others follow at steps of 4.
 const DYN_CTL0: u64 = 0x5C00;
 
 const DYN_CTLN: u64 = 0x3800;
+
+// Where each field begins, and the numbers that it holds.
+const INTENA: u64 = 0;
+
+const CLEARPBA: u64 = 1;
+
+const SWINT_TRIG: u64 = 2;
+
+const ITR_INDX: u64 = 3;
+
+const INTERVAL: u64 = 5;
+
+const SW_ITR_INDX_ENA: u64 = 24;
+
+const SW_ITR_INDX: u64 = 25;
+
+const WB_ON_ITR: u64 = 30;
+
+const INTENA_MSK: u64 = 31;
+
+const TWO_BITS: u64 = 0x3;
+
+const TWELVE_BITS: u64 = 0xfff;
 
 fn is_on(e: Enable) -> bool
     ensures { λ r. ⌜ r ≡ isOn e ⌝ }
@@ -87,7 +114,7 @@ fn is_leave(e: Enable) -> bool
 }
 
 fn wrong(q: Request) -> bool
-    ensures { λ r. ⌜ r ≡ wrongOf q ⌝ }
+    ensures { λ r. ⌜ r ≡ anyOf (wrongs q) ⌝ }
 {
     let e = q.enable;
     let off = is_off(e);
@@ -95,7 +122,7 @@ fn wrong(q: Request) -> bool
         | (INDEX_MOST < q.index)
         | (INDEX_MOST < q.trigger_index)
         | (INTERVAL_MOST < q.interval)
-        | (q.interval % 2 != 0)
+        | (q.interval % INTERVAL_UNIT != 0)
         | ((q.interval != 0) & (q.index == NO_ITR))
         | ((q.trigger_index != 0) & !q.trigger)
         | (q.write_back & !off)
@@ -119,17 +146,17 @@ fn word(q: Request) -> u64
     let on = is_on(e);
     let leave = is_leave(e);
     (on as u64)
-        | (q.clear as u64) << 1
-        | (q.trigger as u64) << 2
-        | (q.index & 3) << 3
-        | (q.interval / 2 & 0xfff) << 5
-        | (q.trigger as u64) << 24
-        | (q.trigger_index & 3) << 25
-        | (q.write_back as u64) << 30
-        | (leave as u64) << 31
+        | (q.clear as u64) << CLEARPBA
+        | (q.trigger as u64) << SWINT_TRIG
+        | (q.index & TWO_BITS) << ITR_INDX
+        | (q.interval / INTERVAL_UNIT & TWELVE_BITS) << INTERVAL
+        | (q.trigger as u64) << SW_ITR_INDX_ENA
+        | (q.trigger_index & TWO_BITS) << SW_ITR_INDX
+        | (q.write_back as u64) << WB_ON_ITR
+        | (leave as u64) << INTENA_MSK
 }
 
-// Any request goes in; a wrong one gets 9 and zeros.
+// Answers 0, or 9 where a cause of `wrong` holds; zeros come with it.
 pub fn interrupt(q: Request) -> Answer
     ensures { λ r. ⌜ r ≡ interruptOf q ⌝ }
 {
@@ -152,14 +179,14 @@ pub fn read(word: u64) -> Fields
     ensures { λ r. ⌜ r ≡ fieldsOf word ⌝ }
 {
     Fields {
-        intena: (word >> 0) & 1 == 1,
-        clearpba: (word >> 1) & 1 == 1,
-        swint_trig: (word >> 2) & 1 == 1,
-        itr_indx: (word >> 3) & 3,
-        interval: (word >> 5) & 0xfff,
-        sw_itr_indx_ena: (word >> 24) & 1 == 1,
-        sw_itr_indx: (word >> 25) & 3,
-        wb_on_itr: (word >> 30) & 1 == 1,
-        intena_msk: (word >> 31) & 1 == 1,
+        intena: (word >> INTENA) & 1 == 1,
+        clearpba: (word >> CLEARPBA) & 1 == 1,
+        swint_trig: (word >> SWINT_TRIG) & 1 == 1,
+        itr_indx: (word >> ITR_INDX) & TWO_BITS,
+        interval: (word >> INTERVAL) & TWELVE_BITS,
+        sw_itr_indx_ena: (word >> SW_ITR_INDX_ENA) & 1 == 1,
+        sw_itr_indx: (word >> SW_ITR_INDX) & TWO_BITS,
+        wb_on_itr: (word >> WB_ON_ITR) & 1 == 1,
+        intena_msk: (word >> INTENA_MSK) & 1 == 1,
     }
 }

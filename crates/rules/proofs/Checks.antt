@@ -7,7 +7,7 @@ use mathlib.Core.List.{List, [], _∷_}
 use native.Mathlib.Omega.{arith}
 use borrow.Author.Tests.{eqb-false}
 use lib.Dec.{T, eqb}
-use Rattle.rules.specs.Rules.{Check, _when_, answerOf, nth, refusing, Answers}
+use Rattle.rules.specs.Rules.{anyFrom, anyOf, Check, _when_, answerOf, each, nth, refusing, Answers}
 
 -- a check that comes after one whose cause does not hold
 later : (c : Check) (cs : List Check) (n i : ℕ) → c .cause ≡ false → Answers cs n i → Answers (c ∷ cs) n (suc i)
@@ -47,6 +47,15 @@ is-answered (c ∷ cs) n (suc i) a =
       cause-holds = a .cause-holds;
       none-before = λ j h. a .none-before (suc j) (omega arith);
     }))
+
+-- one number for several causes: it is answered exactly where one of them holds
+pub each-answer : (n : ℕ) (bs : List Bool) → answerOf (each n bs) ≡ cond (anyOf bs) n 0
+each-answer n bs = from false bs
+  where
+    from : (b : Bool) (cs : List Bool) → cond b n (answerOf (each n cs)) ≡ cond (anyFrom b cs) n 0
+    from b [] = refl
+    from true (c ∷ cs) = from true cs
+    from false (c ∷ cs) = from c cs
 
 -- a call with one check: whatever is given back, if its number is 0 where the test says yes and 1 where it says no
 pub one-check : {A : Type 0} (number : A → ℕ) (b : Bool) (x y : A) → number x ≡ 0 → number y ≡ 1 → number (cond b x y) ≡ answerOf (1 when not b ∷ [])

@@ -7,7 +7,7 @@ use mathlib.Core.List.{List, [], _∷_}
 use native.Mathlib.Numerals.{add-one}
 use native.Mathlib.Decide.{le-ind}
 use borrow.Author.Tests.{le-leb, lt-leb, leb-true, leb-false, lt-ltb, le-ltb, ltb-true, ltb-false, eqb-true}
-use lib.Dec.{T, leb, ltb, eqb}
+use lib.Dec.{leb, ltb, eqb}
 use lib.ListN.{getD}
 use Rattle.rules.specs.Rules.{within, inSteps, anyFrom, anyOf, allBelow}
 
@@ -18,20 +18,6 @@ both false b e = absurd (false≢true e)
 
 pub and-both : {a b : Bool} → a ≡ true → b ≡ true → a && b ≡ true
 and-both p q = rw (p, q)
-
--- a test that cannot be true is false
-pub not-so : (b : Bool) → (b ≡ true → ⊥) → b ≡ false
-not-so true n = absurd (n refl)
-not-so false n = refl
-
--- a test as a truth, and the other way
-pub T-true : (b : Bool) → T b → b ≡ true
-T-true true t = refl
-T-true false t = absurd t
-
-pub true-T : (b : Bool) → b ≡ true → T b
-true-T true e = tt
-true-T false e = absurd (false≢true e)
 
 -- two tests with the same outcome
 pub same : (s t : Bool) → (s ≡ true → t ≡ true) → (s ≡ false → t ≡ false) → s ≡ t
@@ -44,12 +30,8 @@ leb-same a b c d f g = same (leb a b) (leb c d) (λ e. le-leb c d (f (leb-true a
 pub ltb-same : (a b c d : ℕ) → (a < b → c < d) → (b ≤ a → d ≤ c) → ltb a b ≡ ltb c d
 ltb-same a b c d f g = same (ltb a b) (ltb c d) (λ e. lt-ltb c d (f (ltb-true a b e))) (λ e. le-ltb c d (g (ltb-false a b e)))
 
-module _ (low high x : ℕ) where
-  pub within-yes : low ≤ x → x ≤ high → within low high x ≡ true
-  within-yes p q = simp (le-leb low x p, le-leb x high q)
-
-  pub within-is : within low high x ≡ true → (low ≤ x) × (x ≤ high)
-  within-is e = let h = both (leb low x) (leb x high) e in (leb-true low x (h .0), leb-true x high (h .1))
+pub within-is : (low high x : ℕ) → within low high x ≡ true → (low ≤ x) × (x ≤ high)
+within-is low high x e = let h = both (leb low x) (leb x high) e in (leb-true low x (h .0), leb-true x high (h .1))
 
 -- what a number in steps keeps
 pub record Stepped (low high step n : ℕ) : Type 0 where

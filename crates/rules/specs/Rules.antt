@@ -41,6 +41,11 @@ abbrev pub answerOf : List Check → ℕ
 answerOf [] = 0
 answerOf (c ∷ cs) = cond (c .cause) (c .answer) (answerOf cs)
 
+-- one number for several causes: a check for each of them
+abbrev pub each : ℕ → List Bool → List Check
+each n [] = []
+each n (b ∷ bs) = n when b ∷ each n bs
+
 abbrev pub nth : List Check → ℕ → Check
 nth cs i = getD cs i (0 when false)
 

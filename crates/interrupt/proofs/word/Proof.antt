@@ -1,7 +1,7 @@
 -- `interrupt::word` meets its contract: its parts, joined by `|`, are the word of the register's table.
 -- Assumes nothing.
 use Rattle.field.proofs.Laws.{or-table, masked, flagged, flagged-low, done, _▹_}
-use Rattle.interrupt.specs.Interrupt.{isOn, isLeave, lines}
+use Rattle.interrupt.specs.Interrupt.{isOn, isLeave, told, lines}
 use borrow.Author.Needs.{needs}
 use Rattle.interrupt.proofs.word.Statement.{statement}
 use Rattle.interrupt.proofs.word.Tie as tie
@@ -35,7 +35,7 @@ returns c =
     let on = c .before .before .before .before .before .before .before .before in
     let q = on .before .args .q in
     rw (on .is-on .ensures, c .before .before .before .before .before .before .before .is-leave .ensures)
-    (or-table {ps = lines q}
+    (or-table {ps = lines (told q)}
     (flagged-low (isOn (q .enable)) ▹ flagged (q .clear) tt ▹ flagged (q .trigger) tt ▹ masked tt ▹ masked tt ▹ flagged (q .trigger) tt ▹ masked tt ▹ flagged (q .«write_back») tt ▹ flagged (isLeave (q .enable)) tt ▹ done)
     tt)
 
