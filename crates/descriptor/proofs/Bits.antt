@@ -3,13 +3,13 @@
 use Prim.Native.Nat.{ℕ, _+_, _%_, _^_}
 use mathlib.Core.Path.{_≡_, sym, ap, _∙_}
 use mathlib.Core.Bool.{Bool, true, false}
-use mathlib.Core.List.{[], _∷_}
+use mathlib.Core.List.{List, [], _∷_}
 use native.Mathlib.Nat.{mod-lt}
 use native.Mathlib.Omega.{arith}
 use lib.Dec.{T}
 use lib.Pow.{pow-pos}
 use mir.Facts.{and-yes}
-use Rattle.field.specs.Field.{fieldOf, placed, Line, readAt, apart, free, bit}
+use Rattle.field.specs.Field.{fieldOf, placed, Part, Line, readAt, apart, free, bit}
 use Rattle.field.proofs.Laws.{reads, reads-free, put-apart}
 use Rattle.descriptor.specs.declared.Data.{Data}
 use Rattle.descriptor.specs.declared.Context.{Context}
@@ -45,11 +45,16 @@ module _ (x : Context) where
 
 -- ---- the pieces of one send
 
--- one line of a word more, and a field that it does not share
-one-line : {w : ℕ} (l : Line) (v w₀ at k : ℕ) → w ≡ w₀ + placed (l 0 .at) (l 0 .width) v → readAt l w₀ ≡ 0 → T (apart (l 0 .at) (l 0 .width) at k) → fieldOf at k w ≡ fieldOf at k w₀
-one-line l v w₀ at k e z t =
-    let n : ℕ = l 0 .width in
-    ap (λ (x : ℕ). fieldOf at k x) e ∙ put-apart (l 0 .at) n (v % 2 ^ n) w₀ at k z (mod-lt v (pow-pos n)) t
+module _ (at k : ℕ) (l : Line) where
+  -- a field that shares no bit with a line nor with those after it
+  splits : (ps : List Part) → T (free at k (l 0 ∷ ps)) → T (apart (l 0 .at) (l 0 .width) at k) × T (free at k ps)
+  splits ps t = and-yes (apart (l 0 .at) (l 0 .width) at k) (free at k ps) t
+
+  -- reads alike with that line and without it
+  one-line : {w : ℕ} (v w₀ : ℕ) → w ≡ w₀ + placed (l 0 .at) (l 0 .width) v → readAt l w₀ ≡ 0 → T (apart (l 0 .at) (l 0 .width) at k) → fieldOf at k w ≡ fieldOf at k w₀
+  one-line v w₀ e z t =
+      let n : ℕ = l 0 .width in
+      ap (λ (x : ℕ). fieldOf at k x) e ∙ put-apart (l 0 .at) n (v % 2 ^ n) w₀ at k z (mod-lt v (pow-pos n)) t
 
 abbrev marked : Data → ℕ → Bool → Bool → Data
 marked d length eop rs =
@@ -58,12 +63,12 @@ marked d length eop rs =
 module _ (d : Data) (at k : ℕ) (t : T (free at k own)) where
   bare : (length : ℕ) (eop rs : Bool) → fieldOf at k (dataWord (marked d length eop rs)) ≡ fieldOf at k (dataWord (marked d 0 false false))
   bare length eop rs =
-      let a = and-yes (apart 4 1 at k) (free at k (rsLine 0 ∷ lengthLine 0 ∷ [])) t in
-      let b = and-yes (apart 5 1 at k) (free at k (lengthLine 0 ∷ [])) (a .1) in
-      let c = and-yes (apart 34 14 at k) true (b .1) in
-      one-line eopLine (bit eop) (dataWord (marked d length false rs)) at k (omega arith) (reads (dataParts (marked d length false rs)) tt 1 tt) (a .0)
-      ∙ one-line rsLine (bit rs) (dataWord (marked d length false false)) at k (omega arith) (reads (dataParts (marked d length false false)) tt 2 tt) (b .0)
-      ∙ one-line lengthLine length (dataWord (marked d 0 false false)) at k (omega arith) (reads (dataParts (marked d 0 false false)) tt 10 tt) (c .0)
+      let a = splits at k eopLine (rsLine 0 ∷ lengthLine 0 ∷ []) t in
+      let b = splits at k rsLine (lengthLine 0 ∷ []) (a .1) in
+      let c = splits at k lengthLine [] (b .1) in
+      one-line at k eopLine (bit eop) (dataWord (marked d length false rs)) (omega arith) (reads (dataParts (marked d length false rs)) tt 1 tt) (a .0)
+      ∙ one-line at k rsLine (bit rs) (dataWord (marked d length false false)) (omega arith) (reads (dataParts (marked d length false false)) tt 2 tt) (b .0)
+      ∙ one-line at k lengthLine length (dataWord (marked d 0 false false)) (omega arith) (reads (dataParts (marked d 0 false false)) tt 10 tt) (c .0)
 
   -- two pieces of one send read alike at every field that shares no bit with length, EOP and RS
   pub pieces-alike : (length length′ : ℕ) (last last′ : Bool) → fieldOf at k (dataWord (pieceOf d length last)) ≡ fieldOf at k (dataWord (pieceOf d length′ last′))

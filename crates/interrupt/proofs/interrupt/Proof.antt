@@ -1,6 +1,5 @@
 -- `interrupt::interrupt` meets its contract: a request that is not wrong has a vector that `offset` takes.
 -- Assumes nothing.
-use Prim.Native.Nat.{ℕ}
 use mathlib.Core.Path.{_≡_, sym, _∙_}
 use mathlib.Core.Bool.{Bool, cond}
 use Rattle.rules.specs.Rules.{anyOf}
