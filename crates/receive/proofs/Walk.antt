@@ -13,6 +13,7 @@ use lib.ListN.{length, set, length-map}
 use Rattle.rules.proofs.Tests.{both}
 use Rattle.ring.specs.Slots.{run}
 use Rattle.ring.proofs.Runs.{length-run, run-snoc}
+use Rattle.writeback.specs.Places.{lengthPlace}
 use Rattle.writeback.specs.WriteBack.{Words, dd, eop, lengthOf, writeBackOf}
 use Rattle.receive.specs.declared.RxQueue.{RxQueue}
 use Rattle.receive.specs.Queue.{slotOf}
@@ -174,7 +175,7 @@ module _ (q : RxQueue) (ring list addresses lengths : List ℕ) (total k : ℕ) 
           addresses-are = addresses-more;
           lengths-are = lengths-more;
           total-is = total-more;
-          total-small = omega (arith, w .total-small, mod-lt (here .words .word1 / 2 ^ 38) {m = 2 ^ 14} (omega arith));
+          total-small = omega (arith, w .total-small, mod-lt (here .words .word1 / 2 ^ lengthPlace .at) {m = 2 ^ lengthPlace .width} (omega arith));
         }
 
     -- the packet is complete

@@ -12,18 +12,14 @@ use crate::PACKET_SLOTS;
 use crate::Packet;
 use crate::RxQueue;
 use crate::Taken;
-use writeback::DD;
-use writeback::EOP;
-use writeback::LENGTH;
-use writeback::LENGTHS;
 
 // What the device's rules allow in a slot with k slots of its packet before it.
 fn slot_ok(buffer: usize, k: usize, word1: u64) -> bool
     requires { ⌜ k < mostSize ⌝ }
     ensures { λ r. ⌜ r ≡ (lengthOk buffer k (record { word0 = 0; word1 = word1 }) && endOk k (record { word0 = 0; word1 = word1 })) ⌝ }
 {
-    let length = (word1 / LENGTH % LENGTHS) as usize;
-    let last = word1 / EOP % 2 == 1;
+    let length = writeback::length(word1);
+    let last = writeback::eop(word1);
     ((length <= buffer) & ((1 <= length) | (last & (1 <= k)))) & (last | (k + 1 < PACKET_SLOTS))
 }
 
@@ -78,16 +74,16 @@ impl RxQueue {
             let at = ring::slot(self.head, self.size, k);
             let first = 2 * at;
             let word1 = ring[first + 1];
-            if word1 / DD % 2 != 1 {
+            if !writeback::dd(word1) {
                 return self.refused(4);
             }
             if slot_ok(self.buffer, k, word1) {
-                let length = (word1 / LENGTH % LENGTHS) as usize;
+                let length = writeback::length(word1);
                 addresses[k] = list[at];
                 lengths[k] = length;
                 total += length;
                 k += 1;
-                if word1 / EOP % 2 == 1 {
+                if writeback::eop(word1) {
                     let last = writeback::read(ring[first], word1);
                     return self.handed(Packet {
                         count: k,

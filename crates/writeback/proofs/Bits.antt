@@ -3,18 +3,18 @@
 -- Assumes nothing.
 use Prim.Native.Nat.{ℕ, zero, suc, _+_, _%_, _^_, _≤_, _<_}
 use mathlib.Core.Path.{_≡_, refl, sym, ap, ap₂, _∙_}
-use mathlib.Core.Bool.{Bool, true, false, _&&_, _||_, cond}
+use mathlib.Core.Bool.{Bool, true, false, _&&_, _||_}
 use mathlib.Core.Logic.{_⊎_, inl, inr, ⊎-elim}
 use mathlib.Core.List.{List, [], _∷_}
 use native.Mathlib.Omega.{arith}
-use lib.Dec.{T, leb, ltb, eqb, leb→le, le→leb, ltb→lt}
-use lib.ListN.{length, getD, set}
+use lib.Dec.{T, leb, ltb, leb→le, le→leb, ltb→lt}
+use lib.ListN.{length, set}
 use mir.Facts.{and-yes, or-yes}
 use Rattle.field.specs.Field.{replaced, Part, rising, apart, free}
 use Rattle.field.proofs.Laws.{replaced-same, replaced-apart}
-use Rattle.writeback.specs.declared.WriteBack.{WriteBack}
-use Rattle.writeback.specs.WriteBack.{Words, familyOf, writeBackOf}
-use Rattle.writeback.specs.Places.{place, places0, places1, readsAt}
+use Rattle.writeback.specs.Places.{places0, places1}
+use Rattle.writeback.specs.WriteBack.{Words, writeBackOf}
+use Rattle.writeback.specs.Bits.{readsAt, nth, putAt, made}
 
 -- ---- a table's places, and a word with one field replaced
 
@@ -45,9 +45,6 @@ free-same (p ∷ ps) at k v w t =
     let s = and-yes (apart (p .at) (p .width) at k) (free at k ps) t in
     ap₂ (λ (n : ℕ) (ns : List ℕ). n ∷ ns) (replaced-apart at k v w (p .at) (p .width) (flip (p .at) (p .width) at k (s .0))) (free-same ps at k v w (s .1))
 
-abbrev nth : List Part → ℕ → Part
-nth ps i = getD ps i (place 0 0)
-
 -- places that rise from j on share no bit with one that ends at j
 rising-free : (ps : List Part) (at k j : ℕ) → at + k ≤ j → T (rising j ps) → T (free at k ps)
 rising-free [] at k j h t = tt
@@ -72,7 +69,7 @@ rising-at (p ∷ ps) j (suc i) h t =
     omega arith
 
 own-from : (ps : List Part) (j i v w : ℕ) → T (rising j ps) → i < length ps
-    → readsAt ps (replaced (nth ps i .at) (nth ps i .width) v w) ≡ set (readsAt ps w) i (v % 2 ^ nth ps i .width)
+    → readsAt ps (putAt ps i v w) ≡ set (readsAt ps w) i (v % 2 ^ nth ps i .width)
 own-from [] j i v w t h = absurd (omega arith)
 own-from (p ∷ ps) j zero v w t h =
     let s = and-yes (leb j (p .at)) (rising (p .at + p .width) ps) t in
@@ -87,37 +84,10 @@ own-from (p ∷ ps) j (suc i) v w t h =
 
 -- bits put at place i are the number read there, and no other number changes
 pub own-bits : (ps : List Part) → T (rising 0 ps) → (i v w : ℕ) → T (ltb i (length ps))
-    → readsAt ps (replaced (nth ps i .at) (nth ps i .width) v w) ≡ set (readsAt ps w) i (v % 2 ^ nth ps i .width)
+    → readsAt ps (putAt ps i v w) ≡ set (readsAt ps w) i (v % 2 ^ nth ps i .width)
 own-bits ps t i v w h = own-from ps 0 i v w t (ltb→lt i (length ps) h)
 
 -- ---- the write-back
-
-abbrev flag : List ℕ → ℕ → Bool
-flag ns i = eqb (getD ns i 0) 1
-
--- a write-back of the numbers at its places
-unfoldable pub made : List ℕ → List ℕ → WriteBack
-made ms ns =
-    record {
-      tag = cond (flag ns 2) (getD ms 0 0) 0;
-      hash = cond (eqb (getD ns 6 0) 3) (getD ms 1 0) 0;
-      dd = flag ns 0;
-      eop = flag ns 1;
-      l2tag1p = flag ns 2;
-      l3l4p = flag ns 3;
-      crcp = flag ns 4;
-      umbcast = getD ns 5 0;
-      fltstat = getD ns 6 0;
-      lpbk = flag ns 7;
-      ipv6exadd = flag ns 8;
-      int_udp_0 = flag ns 9;
-      ipe = flag ns 10;
-      l4e = flag ns 11;
-      oversize = flag ns 12;
-      ptype = getD ns 13 0;
-      length = getD ns 14 0;
-      family = familyOf (getD ns 13 0);
-    }
 
 pub read-is : (x : Words) → writeBackOf x ≡ made (readsAt places0 (x .word0)) (readsAt places1 (x .word1))
 unfolding made writeBackOf
@@ -135,11 +105,11 @@ module _ (x : Words) (at k v : ℕ) where
 
 module _ (x : Words) (i v : ℕ) where
   -- each field is read at its own bits: put at place i of a word, a value's low bits are that field, and every other field is as before
-  pub own0 : T (ltb i (length places0)) → writeBackOf (record { word0 = replaced (nth places0 i .at) (nth places0 i .width) v (x .word0); word1 = x .word1 })
+  pub own0 : T (ltb i (length places0)) → writeBackOf (record { word0 = putAt places0 i v (x .word0); word1 = x .word1 })
       ≡ made (set (readsAt places0 (x .word0)) i (v % 2 ^ nth places0 i .width)) (readsAt places1 (x .word1))
   own0 h = read-is _ ∙ ap (λ (ms : List ℕ). made ms (readsAt places1 (x .word1))) (own-bits places0 tt i v (x .word0) h)
 
-  pub own1 : T (ltb i (length places1)) → writeBackOf (record { word0 = x .word0; word1 = replaced (nth places1 i .at) (nth places1 i .width) v (x .word1) })
+  pub own1 : T (ltb i (length places1)) → writeBackOf (record { word0 = x .word0; word1 = putAt places1 i v (x .word1) })
       ≡ made (readsAt places0 (x .word0)) (set (readsAt places1 (x .word1)) i (v % 2 ^ nth places1 i .width))
   own1 h = read-is _ ∙ ap (λ (ns : List ℕ). made (readsAt places0 (x .word0)) ns) (own-bits places1 tt i v (x .word1) h)
 

@@ -1,2 +1,3 @@
-pub mod WriteBack
 pub mod Places
+pub mod WriteBack
+pub mod Bits

@@ -4,25 +4,25 @@ use Prim.Native.Nat.{ℕ}
 use mathlib.Core.Bool.{Bool, _||_, cond}
 use lib.Dec.{eqb}
 use Rattle.rules.specs.Rules.{within}
-use Rattle.field.specs.Field.{fieldOf, flagOf}
 use Rattle.writeback.specs.declared.Family.{Family}
 use Rattle.writeback.specs.declared.Family.the-variants.{Unknown, Mac, Arp, Ipv4, Ipv6}
 use Rattle.writeback.specs.declared.WriteBack.{WriteBack}
+use Rattle.writeback.specs.Places.{l2tag1Place, filterPlace, ddPlace, eopPlace, l2tag1pPlace, l3l4pPlace, crcpPlace, umbcastPlace, fltstatPlace, lpbkPlace, ipv6exaddPlace, intUdp0Place, ipePlace, l4ePlace, oversizePlace, ptypePlace, lengthPlace, readAt, isSet}
 
 -- the two words of a descriptor
 pub record Words : Type 0 where
   pub word0 : ℕ
   pub word1 : ℕ
 
--- word 1: DD, EOP and the length
+-- DD, EOP and the length, which take decides by
 abbrev pub dd : Words → Bool
-dd x = flagOf 0 (x .word1)
+dd x = isSet ddPlace (x .word1)
 
 abbrev pub eop : Words → Bool
-eop x = flagOf 1 (x .word1)
+eop x = isSet eopPlace (x .word1)
 
 abbrev pub lengthOf : Words → ℕ
-lengthOf x = fieldOf 38 14 (x .word1)
+lengthOf x = readAt lengthPlace (x .word1)
 
 -- the family of a packet type number
 unfoldable pub familyOf : ℕ → Family
@@ -43,12 +43,12 @@ familyNumber Ipv6 = 4
 
 -- the VLAN tag reads as 0 unless L2TAG1P is set, the hash as 0 unless FLTSTAT is 11b
 abbrev pub tagOf : Words → ℕ
-tagOf x = cond (flagOf 2 (x .word1)) (fieldOf 16 16 (x .word0)) 0
+tagOf x = cond (isSet l2tag1pPlace (x .word1)) (readAt l2tag1Place (x .word0)) 0
 
 abbrev pub hashOf : Words → ℕ
-hashOf x = cond (eqb (fieldOf 12 2 (x .word1)) 3) (fieldOf 32 32 (x .word0)) 0
+hashOf x = cond (eqb (readAt fltstatPlace (x .word1)) 3) (readAt filterPlace (x .word0)) 0
 
--- field for field: status in 18:0, error in 26:19 (IPE 3, L4E 4 and OVERSIZE 6 within it), packet type in 37:30, length in 51:38
+-- field for field
 unfoldable pub writeBackOf : Words → WriteBack
 writeBackOf x =
     record {
@@ -56,18 +56,18 @@ writeBackOf x =
       hash = hashOf x;
       dd = dd x;
       eop = eop x;
-      l2tag1p = flagOf 2 (x .word1);
-      l3l4p = flagOf 3 (x .word1);
-      crcp = flagOf 4 (x .word1);
-      umbcast = fieldOf 9 2 (x .word1);
-      fltstat = fieldOf 12 2 (x .word1);
-      lpbk = flagOf 14 (x .word1);
-      ipv6exadd = flagOf 15 (x .word1);
-      int_udp_0 = flagOf 18 (x .word1);
-      ipe = flagOf 22 (x .word1);
-      l4e = flagOf 23 (x .word1);
-      oversize = flagOf 25 (x .word1);
-      ptype = fieldOf 30 8 (x .word1);
+      l2tag1p = isSet l2tag1pPlace (x .word1);
+      l3l4p = isSet l3l4pPlace (x .word1);
+      crcp = isSet crcpPlace (x .word1);
+      umbcast = readAt umbcastPlace (x .word1);
+      fltstat = readAt fltstatPlace (x .word1);
+      lpbk = isSet lpbkPlace (x .word1);
+      ipv6exadd = isSet ipv6exaddPlace (x .word1);
+      int_udp_0 = isSet intUdp0Place (x .word1);
+      ipe = isSet ipePlace (x .word1);
+      l4e = isSet l4ePlace (x .word1);
+      oversize = isSet oversizePlace (x .word1);
+      ptype = readAt ptypePlace (x .word1);
       length = lengthOf x;
-      family = familyOf (fieldOf 30 8 (x .word1));
+      family = familyOf (readAt ptypePlace (x .word1));
     }

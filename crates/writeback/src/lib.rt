@@ -1,6 +1,7 @@
 // The reader of one write-back: what the device wrote to a received slot, field for field.
 ghost use mathlib.Core.Path.{_≡_};
-ghost use Rattle.writeback.specs.WriteBack.{familyOf, tagOf, hashOf, writeBackOf};
+ghost use Rattle.writeback.specs.Places.{ddPlace, eopPlace, lengthPlace, readAt, isSet};
+ghost use Rattle.writeback.specs.WriteBack.{familyOf, familyNumber, tagOf, hashOf, writeBackOf};
 
 // The family of a packet type number.
 pub enum Family {
@@ -33,43 +34,76 @@ pub struct WriteBack {
     pub family: Family,
 }
 
-// The places of the bits and fields, as divisors: a field is what is left of a quotient.
-pub const DD: u64 = 1;
+// Where each field begins: those of word 0, then those of word 1.
+const L2TAG1: u64 = 16;
 
-pub const EOP: u64 = 2;
+const FILTER: u64 = 32;
 
-const L2TAG1P: u64 = 4;
+const DD: u64 = 0;
 
-const L3L4P: u64 = 8;
+const EOP: u64 = 1;
 
-const CRCP: u64 = 16;
+const L2TAG1P: u64 = 2;
 
-const UMBCAST: u64 = 512;
+const L3L4P: u64 = 3;
 
-const FLTSTAT: u64 = 4096;
+const CRCP: u64 = 4;
 
-const LPBK: u64 = 16384;
+const UMBCAST: u64 = 9;
 
-const IPV6EXADD: u64 = 32768;
+const FLTSTAT: u64 = 12;
 
-const INT_UDP_0: u64 = 262144;
+const LPBK: u64 = 14;
 
-const IPE: u64 = 4194304;
+const IPV6EXADD: u64 = 15;
 
-const L4E: u64 = 8388608;
+const INT_UDP_0: u64 = 18;
 
-const OVERSIZE: u64 = 33554432;
+// The error field, whose bits count within it.
+const ERROR: u64 = 19;
 
-const PTYPE: u64 = 1073741824;
+const IPE: u64 = ERROR + 3;
 
-pub const LENGTH: u64 = 274877906944;
+const L4E: u64 = ERROR + 4;
 
-// A length has 14 bits.
-pub const LENGTHS: u64 = 16384;
+const OVERSIZE: u64 = ERROR + 6;
 
-const L2TAG1: u64 = 65536;
+const PTYPE: u64 = 30;
 
-const FILTER: u64 = 4294967296;
+const LENGTH: u64 = 38;
+
+// How many numbers a field of so many bits holds: reading it leaves the remainder.
+const ONE_BIT: u64 = 1 << 1;
+
+const TWO_BITS: u64 = 1 << 2;
+
+const EIGHT_BITS: u64 = 1 << 8;
+
+const FOURTEEN_BITS: u64 = 1 << 14;
+
+const SIXTEEN_BITS: u64 = 1 << 16;
+
+const THIRTY_TWO_BITS: u64 = 1 << 32;
+
+// DD: the device is done with the slot.
+pub fn dd(word1: u64) -> bool
+    ensures { λ r. ⌜ r ≡ isSet ddPlace word1 ⌝ }
+{
+    (word1 >> DD) % ONE_BIT == 1
+}
+
+// EOP: the slot is the last of its packet.
+pub fn eop(word1: u64) -> bool
+    ensures { λ r. ⌜ r ≡ isSet eopPlace word1 ⌝ }
+{
+    (word1 >> EOP) % ONE_BIT == 1
+}
+
+pub fn length(word1: u64) -> usize
+    ensures { λ r. ⌜ r ≡ readAt lengthPlace word1 ⌝ }
+{
+    ((word1 >> LENGTH) % FOURTEEN_BITS) as usize
+}
 
 pub fn family_of(ptype: u8) -> Family
     ensures { λ r. ⌜ r ≡ familyOf ptype ⌝ }
@@ -83,11 +117,24 @@ pub fn family_of(ptype: u8) -> Family
     }
 }
 
+// A number for each family, for those who print it.
+pub fn family_number(family: Family) -> u64
+    ensures { λ r. ⌜ r ≡ familyNumber family ⌝ }
+{
+    match family {
+        Family::Unknown => 0,
+        Family::Mac => 1,
+        Family::Arp => 2,
+        Family::Ipv4 => 3,
+        Family::Ipv6 => 4,
+    }
+}
+
 fn tag_of(word0: u64, word1: u64) -> u16
     ensures { λ r. ⌜ r ≡ tagOf (record { word0 = word0; word1 = word1 }) ⌝ }
 {
-    if word1 / L2TAG1P % 2 == 1 {
-        (word0 / L2TAG1 % 65536) as u16
+    if (word1 >> L2TAG1P) % ONE_BIT == 1 {
+        ((word0 >> L2TAG1) % SIXTEEN_BITS) as u16
     } else {
         0
     }
@@ -96,8 +143,8 @@ fn tag_of(word0: u64, word1: u64) -> u16
 fn hash_of(word0: u64, word1: u64) -> u32
     ensures { λ r. ⌜ r ≡ hashOf (record { word0 = word0; word1 = word1 }) ⌝ }
 {
-    if word1 / FLTSTAT % 4 == 3 {
-        (word0 / FILTER % 4294967296) as u32
+    if (word1 >> FLTSTAT) % TWO_BITS == 3 {
+        ((word0 >> FILTER) % THIRTY_TWO_BITS) as u32
     } else {
         0
     }
@@ -106,28 +153,28 @@ fn hash_of(word0: u64, word1: u64) -> u32
 pub fn read(word0: u64, word1: u64) -> WriteBack
     ensures { λ r. ⌜ r ≡ writeBackOf (record { word0 = word0; word1 = word1 }) ⌝ }
 {
-    let ptype = (word1 / PTYPE % 256) as u8;
+    let ptype = ((word1 >> PTYPE) % EIGHT_BITS) as u8;
     let tag = tag_of(word0, word1);
     let hash = hash_of(word0, word1);
     let family = family_of(ptype);
     WriteBack {
         tag,
         hash,
-        dd: word1 / DD % 2 == 1,
-        eop: word1 / EOP % 2 == 1,
-        l2tag1p: word1 / L2TAG1P % 2 == 1,
-        l3l4p: word1 / L3L4P % 2 == 1,
-        crcp: word1 / CRCP % 2 == 1,
-        umbcast: (word1 / UMBCAST % 4) as u8,
-        fltstat: (word1 / FLTSTAT % 4) as u8,
-        lpbk: word1 / LPBK % 2 == 1,
-        ipv6exadd: word1 / IPV6EXADD % 2 == 1,
-        int_udp_0: word1 / INT_UDP_0 % 2 == 1,
-        ipe: word1 / IPE % 2 == 1,
-        l4e: word1 / L4E % 2 == 1,
-        oversize: word1 / OVERSIZE % 2 == 1,
+        dd: dd(word1),
+        eop: eop(word1),
+        l2tag1p: (word1 >> L2TAG1P) % ONE_BIT == 1,
+        l3l4p: (word1 >> L3L4P) % ONE_BIT == 1,
+        crcp: (word1 >> CRCP) % ONE_BIT == 1,
+        umbcast: ((word1 >> UMBCAST) % TWO_BITS) as u8,
+        fltstat: ((word1 >> FLTSTAT) % TWO_BITS) as u8,
+        lpbk: (word1 >> LPBK) % ONE_BIT == 1,
+        ipv6exadd: (word1 >> IPV6EXADD) % ONE_BIT == 1,
+        int_udp_0: (word1 >> INT_UDP_0) % ONE_BIT == 1,
+        ipe: (word1 >> IPE) % ONE_BIT == 1,
+        l4e: (word1 >> L4E) % ONE_BIT == 1,
+        oversize: (word1 >> OVERSIZE) % ONE_BIT == 1,
         ptype,
-        length: (word1 / LENGTH % LENGTHS) as usize,
+        length: length(word1),
         family,
     }
 }

@@ -17,15 +17,32 @@ hash-of-requires c κs = search needs
 family-of-requires : tie.Need-family-of-requires
 family-of-requires c κs = search needs
 
-cast-t24 : tie.Need-cast-t24
-cast-t24 c = search needs
+dd-requires : tie.Need-dd-requires
+dd-requires c κs = search needs
 
-cast-t27 : tie.Need-cast-t27
-cast-t27 c = search needs
+eop-requires : tie.Need-eop-requires
+eop-requires c κs = search needs
+
+cast-t20 : tie.Need-cast-t20
+cast-t20 c = search needs
+
+cast-t23 : tie.Need-cast-t23
+cast-t23 c = search needs
+
+length-requires : tie.Need-length-requires
+length-requires c κs = search needs
 
 returns : tie.Need-returns
 unfolding writeBackOf
-returns c = rw (c .before .before .tag-of .ensures, c .before .hash-of .ensures, c .family-of .ensures)
+returns c =
+    rw (
+      c .before .before .before .before .before .tag-of .ensures,
+      c .before .before .before .before .hash-of .ensures,
+      c .before .before .before .family-of .ensures,
+      c .before .before .dd .ensures,
+      c .before .eop .ensures,
+      c .length .ensures,
+    )
 
 pub read-spec : {M : Type 1} → statement M
 read-spec =
@@ -35,6 +52,9 @@ read-spec =
     tag-of-requires
     hash-of-requires
     family-of-requires
-    cast-t24
-    cast-t27
+    dd-requires
+    eop-requires
+    cast-t20
+    cast-t23
+    length-requires
     returns)

@@ -1,7 +1,7 @@
 -- `RxQueue::scan` meets its contract. The loop's invariant: k slots are seen, none the last of its packet (`Walked`); each way out is one law of it.
 -- Assumes nothing.
 use mathlib.Core.Path.{sym, _∙_}
-use borrow.Author.Tests.{eq-eqb, ne-eqb}
+use borrow.Author.Tests.{not-true, not-false}
 use Prim.Native.Nat.{_-_}
 use borrow.Author.Needs.{needs}
 use Rattle.receive.specs.Take.{padded}
@@ -34,14 +34,22 @@ mul-word1 c = search needs
 shared-slice-read-word1 : tie.Need-shared-slice-read-word1 Inv-loop μ-loop
 shared-slice-read-word1 c = search needs
 
+dd-requires : tie.Need-dd-requires Inv-loop μ-loop
+dd-requires c κs = search needs
+
 refused-requires : tie.Need-refused-requires Inv-loop μ-loop
 refused-requires c κs = search needs
 
 returns : tie.Need-returns Inv-loop μ-loop
-returns c = rw (at-clear _ _ _ _ _ _ _ (c .before .before .before .before .before .before .loop .inv) (c .before .before .before .before .if1 .taken) _ (c .before .before .before .slot .ensures .is) (ne-eqb _ _ (c .before .if2 .taken))) (c .refused .ensures)
+returns c =
+    let d = sym (c .before .before .dd .ensures) ∙ not-true _ (c .before .if2 .taken) in
+    rw (at-clear _ _ _ _ _ _ _ (c .before .before .before .before .before .before .before .loop .inv) (c .before .before .before .before .before .if1 .taken) _ (c .before .before .before .before .slot .ensures .is) d) (c .refused .ensures)
 
 slot-ok-requires : tie.Need-slot-ok-requires Inv-loop μ-loop
 slot-ok-requires c κs = search needs
+
+length-requires : tie.Need-length-requires Inv-loop μ-loop
+length-requires c κs = search needs
 
 mul-addresses : tie.Need-mul-addresses Inv-loop μ-loop
 mul-addresses c = search needs
@@ -67,6 +75,9 @@ add-total c = search needs
 add-k : tie.Need-add-k Inv-loop μ-loop
 add-k c = search needs
 
+eop-requires : tie.Need-eop-requires Inv-loop μ-loop
+eop-requires c κs = search needs
+
 mul-read : tie.Need-mul-read Inv-loop μ-loop
 mul-read c = search needs
 
@@ -80,19 +91,35 @@ handed-requires : tie.Need-handed-requires Inv-loop μ-loop
 handed-requires c κs = search needs
 
 returns-2 : tie.Need-returns-2 Inv-loop μ-loop
-returns-2 c = c .handed .ensures ∙ rw (c .before .read .ensures) (sym (complete _ _ _ _ _ _ _ (c .before .before .before .before .before .before .before .before .before .before .before .before .loop .inv) (c .before .before .before .before .before .before .before .before .before .before .if1 .taken) _ (c .before .before .before .before .before .before .before .before .before .slot .ensures .is) (eq-eqb _ _ (c .before .before .before .before .before .before .before .if2 .left)) (sym (c .before .before .before .before .before .before .slot-ok .ensures) ∙ c .before .before .before .before .before .if3 .taken) (eq-eqb _ _ (c .before .before .before .if4 .taken))))
+returns-2 c =
+    let p = c .before .before .before .before .before .before .before .before .before in
+    let d = sym (p .before .dd .ensures) ∙ not-false _ (p .if2 .left) in
+    let a = sym (c .before .before .before .before .before .before .before .before .slot-ok .ensures) ∙ c .before .before .before .before .before .before .before .if3 .taken in
+    let e = sym (c .before .before .before .before .eop .ensures) ∙ c .before .before .before .if4 .taken in
+    c .handed .ensures
+    ∙ rw (c .before .read .ensures, c .before .before .before .before .before .before .length .ensures)
+    (sym (complete _ _ _ _ _ _ _ (p .before .before .before .before .before .before .loop .inv) (p .before .before .before .before .if1 .taken) _ (p .before .before .before .slot .ensures .is) d a e))
 
 loop-less : tie.Need-loop-less Inv-loop μ-loop
 loop-less c = search needs
 
 loop-again : tie.Need-loop-again Inv-loop μ-loop
-loop-again c = next _ _ _ _ _ _ _ (c .before .before .before .before .before .before .before .before .before .loop .inv) (c .before .before .before .before .before .before .before .if1 .taken) _ (c .before .before .before .before .before .before .slot .ensures .is) (eq-eqb _ _ (c .before .before .before .before .if2 .left)) (sym (c .before .before .before .slot-ok .ensures) ∙ c .before .before .if3 .taken) (ne-eqb _ _ (c .if4 .left))
+loop-again c =
+    let p = c .before .before .before .before .before .before in
+    let d = sym (p .before .dd .ensures) ∙ not-false _ (p .if2 .left) in
+    let a = sym (c .before .before .before .before .before .slot-ok .ensures) ∙ c .before .before .before .before .if3 .taken in
+    let e = sym (c .before .eop .ensures) ∙ c .if4 .left in
+    rw (c .before .before .before .length .ensures) (next _ _ _ _ _ _ _ (p .before .before .before .before .before .before .loop .inv) (p .before .before .before .before .if1 .taken) _ (p .before .before .before .slot .ensures .is) d a e)
 
 refused-requires-2 : tie.Need-refused-requires-2 Inv-loop μ-loop
 refused-requires-2 c κs = search needs
 
 returns-3 : tie.Need-returns-3 Inv-loop μ-loop
-returns-3 c = rw (at-wrong _ _ _ _ _ _ _ (c .before .before .before .before .before .before .before .before .loop .inv) (c .before .before .before .before .before .before .if1 .taken) _ (c .before .before .before .before .before .slot .ensures .is) (eq-eqb _ _ (c .before .before .before .if2 .left)) (sym (c .before .before .slot-ok .ensures) ∙ c .before .if3 .left)) (c .refused2 .ensures)
+returns-3 c =
+    let p = c .before .before .before in
+    let d = sym (p .before .dd .ensures) ∙ not-false _ (p .if2 .left) in
+    let a = sym (c .before .before .slot-ok .ensures) ∙ c .before .if3 .left in
+    rw (at-wrong _ _ _ _ _ _ _ (p .before .before .before .before .before .before .loop .inv) (p .before .before .before .before .if1 .taken) _ (p .before .before .before .slot .ensures .is) d a) (c .refused2 .ensures)
 
 refused-requires-3 : tie.Need-refused-requires-3 Inv-loop μ-loop
 refused-requires-3 c κs = search needs
@@ -112,9 +139,11 @@ scan-spec =
     add-word1
     mul-word1
     shared-slice-read-word1
+    dd-requires
     refused-requires
     returns
     slot-ok-requires
+    length-requires
     mul-addresses
     shared-slice-read-addresses
     mul-addresses-2
@@ -123,6 +152,7 @@ scan-spec =
     array-write-lengths
     add-total
     add-k
+    eop-requires
     mul-read
     shared-slice-read-read
     read-requires

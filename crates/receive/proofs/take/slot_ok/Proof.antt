@@ -6,12 +6,18 @@ use borrow.Author.Needs.{needs}
 use Rattle.receive.proofs.take.slot_ok.Statement.{statement}
 use Rattle.receive.proofs.take.slot_ok.Tie as tie
 
+length-requires : tie.Need-length-requires
+length-requires c κs = search needs
+
+eop-requires : tie.Need-eop-requires
+eop-requires c κs = search needs
+
 add-result : tie.Need-add-result
 add-result c = search needs
 
 returns : tie.Need-returns
 unfolding lengthOk endOk
-returns c = rw (add-one (c .args .k))
+returns c = rw (c .before .length .ensures, c .eop .ensures, add-one (c .before .before .args .k))
 
 pub slot-ok-spec : {M : Type 1} → statement M
-slot-ok-spec = tie.close (tie.spec add-result returns)
+slot-ok-spec = tie.close (tie.spec length-requires eop-requires add-result returns)

@@ -1,0 +1,50 @@
+-- A write-back as the numbers that its words have at their places: what "read field for field" is stated with, bit for bit.
+-- Assumes nothing.
+use Prim.Native.Nat.{ℕ}
+use mathlib.Core.Bool.{Bool, cond}
+use mathlib.Core.List.{List, map}
+use lib.Dec.{eqb}
+use lib.ListN.{getD}
+use Rattle.field.specs.Field.{Part, replaced}
+use Rattle.writeback.specs.declared.WriteBack.{WriteBack}
+use Rattle.writeback.specs.Places.{place, readAt}
+use Rattle.writeback.specs.WriteBack.{familyOf}
+
+-- the numbers that a word has at its places
+abbrev pub readsAt : List Part → ℕ → List ℕ
+readsAt ps w = map (λ (p : Part). readAt p w) ps
+
+-- place i of them, and a word with a value's low bits put there
+abbrev pub nth : List Part → ℕ → Part
+nth ps i = getD ps i (place 0 0)
+
+abbrev pub putAt : List Part → ℕ → ℕ → ℕ → ℕ
+putAt ps i v w = replaced (nth ps i .at) (nth ps i .width) v w
+
+-- number i, as a flag
+abbrev pub flag : List ℕ → ℕ → Bool
+flag ns i = eqb (getD ns i 0) 1
+
+-- the write-back whose words have these numbers at the places of word 0 and of word 1
+unfoldable pub made : List ℕ → List ℕ → WriteBack
+made ms ns =
+    record {
+      tag = cond (flag ns 2) (getD ms 0 0) 0;
+      hash = cond (eqb (getD ns 6 0) 3) (getD ms 1 0) 0;
+      dd = flag ns 0;
+      eop = flag ns 1;
+      l2tag1p = flag ns 2;
+      l3l4p = flag ns 3;
+      crcp = flag ns 4;
+      umbcast = getD ns 5 0;
+      fltstat = getD ns 6 0;
+      lpbk = flag ns 7;
+      ipv6exadd = flag ns 8;
+      int_udp_0 = flag ns 9;
+      ipe = flag ns 10;
+      l4e = flag ns 11;
+      oversize = flag ns 12;
+      ptype = getD ns 13 0;
+      length = getD ns 14 0;
+      family = familyOf (getD ns 13 0);
+    }
