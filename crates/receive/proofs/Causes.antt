@@ -6,7 +6,7 @@ use mathlib.Core.Logic.{_≢_}
 use mathlib.Core.Bool.{Bool, true, false, not, cond}
 use mathlib.Core.List.{List, [], _∷_}
 use lib.ListN.{length}
-use Rattle.rules.specs.Rules.{Check, _when_, answerOf, Answers}
+use Rattle.rules.specs.Rules.{_when_, answerOf, Answers}
 use Rattle.rules.proofs.Checks.{has-cause, is-answered, one-check}
 use Rattle.writeback.specs.WriteBack.{dd, eop}
 use Rattle.receive.specs.declared.RxQueue.{RxQueue}
@@ -15,7 +15,7 @@ use Rattle.receive.specs.declared.Asked.{Asked}
 use Rattle.receive.specs.Queue.{numbersOk, recordOk, lentOk, emptyQueue, freshOf, askedOf}
 use Rattle.receive.specs.Slots.{Slot, postedSlots}
 use Rattle.receive.specs.Post.{postChecks, postAnswer, answerTo}
-use Rattle.receive.specs.Take.{lengthOk, endOk, Look, refuse, whole, andThen, scan, look, takeBy, takeOf}
+use Rattle.receive.specs.Take.{lengthOk, endOk, Look, refuse, whole, andThen, scan, look, slotChecks, takeChecks, takeBy, takeOf}
 
 -- ---- one check alone: fresh, and a number asked of a record, answer 1 exactly if a line is broken
 
@@ -30,31 +30,15 @@ asked-answer q n = one-check (λ (a : Asked). a .answer) (recordOk q) (record { 
 -- ---- post: 1, 2, 3
 
 module _ (q : RxQueue) (ring list : List ℕ) (address n : ℕ) where
-  abbrev checks : List Check
-  checks = postChecks q (length ring) (length list) address
-
-  pub post-cause : answerTo q ring list address ≡ n → n ≢ 0 → (i : ℕ) × Answers checks n i
+  pub post-cause : answerTo q ring list address ≡ n → n ≢ 0 → (i : ℕ) × Answers (postChecks q (length ring) (length list) address) n i
   unfolding postAnswer
-  post-cause e ne = has-cause checks n e ne
+  post-cause e ne = has-cause _ n e ne
 
-  pub post-answered : (i : ℕ) → Answers checks n i → answerTo q ring list address ≡ n
+  pub post-answered : (i : ℕ) → Answers (postChecks q (length ring) (length list) address) n i → answerTo q ring list address ≡ n
   unfolding postAnswer
-  post-answered i a = is-answered checks n i a
+  post-answered i a = is-answered _ n i a
 
 -- ---- take: 1, then slots from head upward
-
--- the checks at each slot, k slots of the packet passed: DD clear 4, a length that the rules forbid 5, a fifth without EOP 5, EOP done; past them 4
-unfoldable pub slotChecks : ℕ → ℕ → List Slot → List Check
-slotChecks buffer k [] = 4 when true ∷ []
-slotChecks buffer k (s ∷ rest) =
-    4 when not (dd (s .words))
-    ∷ 5 when not (lengthOk buffer k (s .words))
-    ∷ 5 when not (endOk k (s .words))
-    ∷ 0 when eop (s .words)
-    ∷ slotChecks buffer (suc k) rest
-
-abbrev pub takeChecks : RxQueue → List ℕ → List ℕ → List Check
-takeChecks q ring list = 1 when not (lentOk q (length ring) (length list)) ∷ slotChecks (q .buffer) 0 (postedSlots q ring list)
 
 -- the number of what take sees
 abbrev numberOf : Look → ℕ

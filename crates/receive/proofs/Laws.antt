@@ -13,8 +13,9 @@ use Rattle.ring.specs.Sizes.{leastSize, queueOk, placeOk}
 use Rattle.ring.proofs.Lines.{size-least, placed}
 use Rattle.receive.specs.declared.RxQueue.{RxQueue}
 use Rattle.receive.specs.declared.Fresh.{Fresh}
-use Rattle.receive.specs.Queue.{leastBuffer, mostBuffer, bufferStep, numbersOk, recordOk, lentOk, emptyQueue, freshOf, Kept, Lent}
+use Rattle.receive.specs.Queue.{leastBuffer, mostBuffer, bufferStep, numbersOk, recordOk, lentOk, emptyQueue, freshOf}
 use Rattle.receive.specs.Post.{postChecks, postAnswer}
+use Rattle.receive.specs.Steps.{Kept, Lent}
 
 -- a fresh queue that is given keeps the lines, so its size is not small, and it is empty
 pub fresh-lines : (queue size buffer : ℕ) → freshOf queue size buffer .answer ≡ 0 → numbersOk queue size buffer ≡ true
@@ -52,20 +53,20 @@ kept q e =
       posted-below = p .posted-below;
     }
 
-pub lent : (q : RxQueue) (ring list : ℕ) → lentOk q ring list ≡ true → Lent q ring list
+pub lent : (q : RxQueue) (ringLength listLength : ℕ) → lentOk q ringLength listLength ≡ true → Lent q ringLength listLength
 unfolding lentOk
-lent q ring list e =
-    let a = both (recordOk q) (eqb ring (2 * q .size) && eqb list (q .size)) e in
-    let l = both (eqb ring (2 * q .size)) (eqb list (q .size)) (a .1) in
+lent q ringLength listLength e =
+    let a = both (recordOk q) (eqb ringLength (2 * q .size) && eqb listLength (q .size)) e in
+    let l = both (eqb ringLength (2 * q .size)) (eqb listLength (q .size)) (a .1) in
     record { is = kept q (a .0); ring-long = eqb-true _ _ (l .0); list-long = eqb-true _ _ (l .1) }
 
 -- an accepted post was lent what the size asks, and had room
-pub done-lent : (q : RxQueue) (ring list address : ℕ) → postAnswer q ring list address ≡ 0 → Lent q ring list
+pub done-lent : (q : RxQueue) (ringLength listLength address : ℕ) → postAnswer q ringLength listLength address ≡ 0 → Lent q ringLength listLength
 unfolding postAnswer
-done-lent q ring list address e = lent q ring list (not-false _ (passed (postChecks q ring list address) tt e 0))
+done-lent q ringLength listLength address e = lent q ringLength listLength (not-false _ (passed (postChecks q ringLength listLength address) tt e 0))
 
-pub done-room : (q : RxQueue) (ring list address : ℕ) → postAnswer q ring list address ≡ 0 → q .posted + 1 < q .size
+pub done-room : (q : RxQueue) (ringLength listLength address : ℕ) → postAnswer q ringLength listLength address ≡ 0 → q .posted + 1 < q .size
 unfolding postAnswer
-done-room q ring list address e =
-    let l = done-lent q ring list address e in
-    omega (arith, eqb-false (q .posted) (q .size - 1) (passed (postChecks q ring list address) tt e 2))
+done-room q ringLength listLength address e =
+    let l = done-lent q ringLength listLength address e in
+    omega (arith, eqb-false (q .posted) (q .size - 1) (passed (postChecks q ringLength listLength address) tt e 2))

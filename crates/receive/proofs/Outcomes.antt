@@ -7,10 +7,9 @@ use Rattle.rules.proofs.Outcomes.{Fixes, alike, equation}
 use Rattle.receive.specs.declared.RxQueue.{RxQueue}
 use Rattle.receive.specs.declared.Fresh.{Fresh}
 use Rattle.receive.specs.declared.Asked.{Asked}
-use Rattle.receive.specs.declared.Posted.{Posted}
 use Rattle.receive.specs.declared.Taken.{Taken}
 use Rattle.receive.specs.Queue.{freshOf, tailValueOf, tailRegisterOf}
-use Rattle.receive.specs.Post.{postOf, ringAfter, listAfter, PostedAs}
+use Rattle.receive.specs.Post.{postOf, ringAfter, listAfter, Outcome, Meets}
 use Rattle.receive.specs.Take.{takeOf}
 
 pub fresh-alike : (queue size buffer : ℕ) (a b : Fresh) → a ≡ freshOf queue size buffer → b ≡ freshOf queue size buffer → a ≡ b
@@ -25,21 +24,9 @@ tail-register-alike q = alike (equation (tailRegisterOf q))
 pub take-alike : (q : RxQueue) (ring list : List ℕ) (a b : Taken) → a ≡ takeOf q ring list → b ≡ takeOf q ring list → a ≡ b
 take-alike q ring list = alike (equation (takeOf q ring list))
 
--- what a post returns and leaves
-pub record Outcome : Type 0 where
-  pub result : Posted
-  pub ring : List ℕ
-  pub list : List ℕ
-
 module _ (q : RxQueue) (ring list : List ℕ) (address : ℕ) where
-  abbrev Meets : Outcome → Type 0
-  Meets o = PostedAs q ring list address (o .result) (o .ring) (o .list)
-
-  abbrev meant : Outcome
-  meant = record { result = postOf q ring list address; ring = ringAfter q ring list address; list = listAfter q ring list address }
-
-  post-fixes : Fixes Meets meant
+  post-fixes : Fixes (Meets q ring list address) (record { result = postOf q ring list address; ring = ringAfter q ring list address; list = listAfter q ring list address })
   post-fixes o p = rw (← p .result-is, ← p .ring-is, ← p .list-is)
 
-  pub post-alike : (a b : Outcome) → Meets a → Meets b → a ≡ b
+  pub post-alike : (a b : Outcome) → Meets q ring list address a → Meets q ring list address b → a ≡ b
   post-alike = alike post-fixes

@@ -1,6 +1,6 @@
 -- What a post leaves: one blank slot more behind the posted ones, and every other slot as it was; which slots are the device's.
 -- Assumes nothing.
-use Prim.Native.Nat.{ℕ, _+_, _*_, _<_}
+use Prim.Native.Nat.{ℕ, _*_, _<_}
 use mathlib.Core.Path.{_≡_, refl, ap, _∙_}
 use mathlib.Core.Logic.{_≢_}
 use mathlib.Core.Bool.{Bool, true, false, cond}
@@ -9,75 +9,61 @@ use native.Mathlib.Numerals.{add-one}
 use native.Mathlib.Omega.{arith}
 use borrow.Author.Tests.{eq-eqb, ne-eqb, le-ltb}
 use lib.Dec.{eqb}
-use lib.ListN.{length, getD, set}
+use lib.ListN.{length, set}
 use lib.Seq.{getD-set-same, getD-set-other}
 use Rattle.ring.specs.Slots.{isDevices}
 use Rattle.ring.proofs.Steps.{slot-below, distance-slot, devices-slot, devices-only}
 use Rattle.ring.proofs.Stores.{read-same, read-other}
 use Rattle.ring.proofs.Runs.{run-snoc, run-outside}
 use Rattle.receive.specs.declared.RxQueue.{RxQueue}
-use Rattle.receive.specs.Queue.{Kept, slotOf, tailOf}
+use Rattle.receive.specs.Queue.{recordOk, slotOf, tailOf}
 use Rattle.receive.specs.Slots.{Slot, wordsOf, slotIn, storeWords, postedSlots}
-use Rattle.receive.specs.Post.{blank, answerTo, postOf, ringAfter, listAfter}
-use Rattle.receive.proofs.Laws.{done-lent}
+use Rattle.receive.specs.Post.{blank, answerTo, postOf, ringAfter, listAfter, Unchanged}
+use Rattle.receive.proofs.Laws.{kept, done-lent}
 
 -- ---- a slot is the device's exactly if its distance from head is below posted
 
-module _ (q : RxQueue) (is : Kept q) where
+module _ (q : RxQueue) (ok : recordOk q ≡ true) where
   pub device-has : (k : ℕ) → k < q .posted → isDevices (q .head) (q .size) (q .posted) (slotOf q k) ≡ true
-  device-has k h = devices-slot (q .head) (q .size) (q .posted) k (is .head-below) (omega arith) h
+  device-has k h = let is = kept q ok in devices-slot (q .head) (q .size) (q .posted) k (is .head-below) (omega arith) h
 
   pub device-only : (s : ℕ) → s < q .size → isDevices (q .head) (q .size) (q .posted) s ≡ true → (k : ℕ) × ((k < q .posted) × (slotOf q k ≡ s))
-  device-only s h e = devices-only (q .head) (q .size) (q .posted) s (is .head-below) h e
+  device-only s h e = devices-only (q .head) (q .size) (q .posted) s (kept q ok .head-below) h e
 
   -- the slot at the tail, which a post writes, is not the device's
   pub tail-free : isDevices (q .head) (q .size) (q .posted) (tailOf q) ≡ false
-  tail-free = rw (distance-slot (q .head) (q .size) (q .posted) (is .head-below) (is .posted-below)) (le-ltb (q .posted) (q .posted) (omega arith))
+  tail-free = let is = kept q ok in rw (distance-slot (q .head) (q .size) (q .posted) (is .head-below) (is .posted-below)) (le-ltb (q .posted) (q .posted) (omega arith))
 
 -- ---- a slot put into a ring and a list
 
 module _ (ring list : List ℕ) (tail address : ℕ) where
-  abbrev ring′ : List ℕ
-  ring′ = storeWords ring tail (blank address)
-
-  abbrev list′ : List ℕ
-  list′ = set list tail address
+  -- the slot with this number afterwards
+  abbrev put : ℕ → Slot
+  put = slotIn (storeWords ring tail (blank address)) (set list tail address)
 
   -- every other slot, and its list entry, is as it was
-  pub put-other : (s : ℕ) → s ≢ tail → slotIn ring′ list′ s ≡ slotIn ring list s
+  pub put-other : (s : ℕ) → s ≢ tail → put s ≡ slotIn ring list s
   put-other s ne =
       let ns : List ℕ = address ∷ 0 ∷ [] in
-      ap (λ (m : List ℕ). record { address = getD list′ s 0; words = wordsOf m }) (read-other 2 ring tail ns s refl ne)
+      ap (λ (m : List ℕ). record { address = put s .address; words = wordsOf m }) (read-other 2 ring tail ns s refl ne)
       ∙ ap (λ (a : ℕ). record { address = a; words = slotIn ring list s .words }) (getD-set-other list tail s address 0 ne)
 
-  pub put-same : (size : ℕ) → tail < size → length ring ≡ 2 * size → length list ≡ size → slotIn ring′ list′ tail ≡ record { address = address; words = blank address }
+  pub put-same : (size : ℕ) → tail < size → length ring ≡ 2 * size → length list ≡ size → put tail ≡ record { address = address; words = blank address }
   put-same size h r l =
       let ns : List ℕ = address ∷ 0 ∷ [] in
-      ap (λ (m : List ℕ). record { address = getD list′ tail 0; words = wordsOf m }) (read-same 2 ring tail ns size refl h r)
+      ap (λ (m : List ℕ). record { address = put tail .address; words = wordsOf m }) (read-same 2 ring tail ns size refl h r)
       ∙ ap (λ (a : ℕ). record { address = a; words = blank address }) (getD-set-same list tail address 0 (rw l h))
 
 -- ---- post
 
 module _ (q : RxQueue) (ring list : List ℕ) (address : ℕ) where
-  abbrev ringLeft : List ℕ
-  ringLeft = ringAfter q ring list address
-
-  abbrev listLeft : List ℕ
-  listLeft = listAfter q ring list address
-
-  -- a refused post changes nothing
-  pub record Unchanged : Type 0 where
-    pub queue-same : postOf q ring list address .queue ≡ q
-    pub ring-same : ringLeft ≡ ring
-    pub list-same : listLeft ≡ list
-
-  pub post-refused : answerTo q ring list address ≢ 0 → Unchanged
+  pub post-refused : answerTo q ring list address ≢ 0 → Unchanged q ring list address
   post-refused ne =
       let e = ne-eqb (answerTo q ring list address) 0 ne in
       record { queue-same = rw e; ring-same = rw e; list-same = rw e }
 
   -- a post leaves every slot but the one at the tail, and its list entry, as it was
-  pub post-leaves : (s : ℕ) → s ≢ tailOf q → slotIn ringLeft listLeft s ≡ slotIn ring list s
+  pub post-leaves : (s : ℕ) → s ≢ tailOf q → slotIn (ringAfter q ring list address) (listAfter q ring list address) s ≡ slotIn ring list s
   post-leaves s ne = go (eqb (answerTo q ring list address) 0)
     where
       go : (b : Bool) → slotIn (cond b (storeWords ring (tailOf q) (blank address)) ring) (cond b (set list (tailOf q) address) list) s ≡ slotIn ring list s
@@ -86,13 +72,14 @@ module _ (q : RxQueue) (ring list : List ℕ) (address : ℕ) where
 
   -- an accepted one puts a blank slot with its address behind the posted ones, which stay
   pub post-adds : answerTo q ring list address ≡ 0
-      → postedSlots (postOf q ring list address .queue) ringLeft listLeft ≡ postedSlots q ring list ++ record { address = address; words = blank address } ∷ []
+      → postedSlots (postOf q ring list address .queue) (ringAfter q ring list address) (listAfter q ring list address)
+      ≡ postedSlots q ring list ++ record { address = address; words = blank address } ∷ []
   unfolding postedSlots
   post-adds e =
       let l = done-lent q (length ring) (length list) address e in
       let k = l .is in
       let at : ℕ → Slot = slotIn ring list in
-      let at′ : ℕ → Slot = slotIn (storeWords ring (tailOf q) (blank address)) (set list (tailOf q) address) in
+      let at′ : ℕ → Slot = put ring list (tailOf q) address in
       rw (eq-eqb (answerTo q ring list address) 0 e, add-one (q .posted))
       (run-snoc at′ (q .size) (q .head) (q .posted)
       ∙ rw (

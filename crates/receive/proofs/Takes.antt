@@ -1,9 +1,9 @@
 -- What take hands up: exactly the first of the posted slots that make a packet as the device's rules have it.
 -- Assumes nothing.
-use Prim.Native.Nat.{ℕ, suc, _+_, _-_, _≤_, _<_}
+use Prim.Native.Nat.{ℕ, suc, _+_, _≤_, _<_}
 use mathlib.Core.Path.{_≡_, refl, ap, _∙_}
-use mathlib.Core.Logic.{_⊎_, inl, inr, ⊎-elim}
-use mathlib.Core.Bool.{Bool, true, false, not, _&&_, cond}
+use mathlib.Core.Logic.{_≢_, _⊎_, inl, inr, ⊎-elim}
+use mathlib.Core.Bool.{Bool, true, false, not, cond}
 use mathlib.Core.List.{List, [], _∷_, _++_, map}
 use native.Mathlib.Omega.{arith}
 use lib.ListN.{length, getD, take, length-append, length-map, List·getD-eq-default}
@@ -11,27 +11,20 @@ use lib.Seq.{take-append-seam}
 use Rattle.rules.proofs.Tests.{both}
 use Rattle.ring.specs.Slots.{run}
 use Rattle.ring.proofs.Runs.{length-run, getD-run, run-take}
-use Rattle.writeback.specs.WriteBack.{dd, eop, lengthOf}
+use Rattle.writeback.specs.WriteBack.{dd, eop, lengthOf, familyOf, writeBackOf}
 use Rattle.receive.specs.declared.RxQueue.{RxQueue}
 use Rattle.receive.specs.declared.Taken.{Taken}
 use Rattle.receive.specs.Queue.{lentOk, slotOf}
 use Rattle.receive.specs.Slots.{Slot, slotIn, postedSlots}
-use Rattle.receive.specs.Take.{packetSlots, lengthOk, endOk, writable, Look, refuse, whole, andThen, scan, look, sum, padded, addressesOf, lengthsOf, packetOf, advanced, takeBy, takeOf}
+use Rattle.receive.specs.Take.{packetSlots, lengthOk, endOk, allowed, writable, Look, refuse, whole, andThen, scan, look, sum, padded, addressesOf, lengthsOf, lastWords, packetOf, noPacket, advanced, takeBy, takeOf}
+use Rattle.receive.specs.Packets.{Complete, ends, goes, HandedUp, Told}
 use Rattle.receive.proofs.Packets.{padded-at, map-at}
 use Rattle.receive.proofs.Walk.{allowed-last, allowed-on, not-fifth}
 
--- a packet as the device's rules have it, k slots of it passed: each slot is one that the device may write at its place, only the last has EOP
-pub data Complete (buffer : ℕ) : ℕ → List Slot → Type 0 where
-  ends : {k : ℕ} {s : Slot} → writable buffer k (s .words) ≡ true → eop (s .words) ≡ true → Complete buffer k (s ∷ [])
-  goes : {k : ℕ} {s : Slot} {p : List Slot} → writable buffer k (s .words) ≡ true → eop (s .words) ≡ false → Complete buffer (suc k) p → Complete buffer k (s ∷ p)
-
 module _ (buffer k : ℕ) (s : Slot) where
-  abbrev may : Bool
-  may = lengthOk buffer k (s .words) && endOk k (s .words)
-
-  parts : writable buffer k (s .words) ≡ true → (dd (s .words) ≡ true) × (may ≡ true)
+  parts : writable buffer k (s .words) ≡ true → (dd (s .words) ≡ true) × (allowed buffer k (s .words) ≡ true)
   unfolding writable
-  parts w = both (dd (s .words)) may w
+  parts w = both (dd (s .words)) (allowed buffer k (s .words)) w
 
   joined : dd (s .words) ≡ true → lengthOk buffer k (s .words) ≡ true → endOk k (s .words) ≡ true → writable buffer k (s .words) ≡ true
   unfolding writable
@@ -46,7 +39,7 @@ module _ (buffer : ℕ) where
   pub has-few : (k : ℕ) (p : List Slot) → k < packetSlots → Complete buffer k p → k + length p ≤ packetSlots
   has-few k (s ∷ []) h (ends w e) = omega arith
   has-few k (s ∷ p) h (goes w e c) =
-      omega (arith, has-few (suc k) p (not-fifth buffer k s [] (parts buffer k s w .1) e) c)
+      omega (arith, has-few (suc k) p (not-fifth buffer k s (parts buffer k s w .1) e) c)
 
   -- a scan of slots that begin with a packet sees it whole
   pub is-seen : (k : ℕ) (p rest : List Slot) → Complete buffer k p → scan buffer k (p ++ rest) ≡ whole p
@@ -105,7 +98,21 @@ refused-with buffer k (s ∷ rest) n h =
     go true true true false (refuse m) h r = let e : m ≡ n = cc in rw (← e) (r m refl)
     go true true true false (whole p) h r = let z : _≡_ {A = ℕ} 0 1 = cc in absurd (omega arith)
 
+-- the packet of no slots is zeros throughout
+pub no-slots : packetOf [] ≡ noPacket
+unfolding packetOf padded sum lastWords writeBackOf familyOf
+no-slots = refl
+
 module _ (q : RxQueue) (ring list : List ℕ) where
+  -- a take that answers other than 0 returns the record as it came, and zeros
+  pub take-refused : takeOf q ring list .answer ≢ 0 → takeOf q ring list ≡ record { answer = takeOf q ring list .answer; queue = q; packet = noPacket }
+  unfolding takeOf takeBy
+  take-refused ne = go (look q ring list) ne
+    where
+      go : (l : Look) → takeBy l q .answer ≢ 0 → takeBy l q ≡ record { answer = takeBy l q .answer; queue = q; packet = noPacket }
+      go (refuse n) ne = rw no-slots
+      go (whole p) ne = absurd (ne refl)
+
   abbrev slots : List Slot
   slots = postedSlots q ring list
 
@@ -113,16 +120,7 @@ module _ (q : RxQueue) (ring list : List ℕ) where
   unfolding postedSlots
   slots-long = length-run (slotIn ring list) (q .size) (q .head) (q .posted)
 
-  -- answer 0 of a take: a packet of one to five slots, no more than are posted, which are the first posted ones
-  pub record HandedUp (t : Taken) : Type 0 where
-    pub some : 1 ≤ t .packet .count
-    pub five : t .packet .count ≤ packetSlots
-    pub within : t .packet .count ≤ q .posted
-    pub accepted : lentOk q (length ring) (length list) ≡ true
-    pub complete : Complete (q .buffer) 0 (take (t .packet .count) slots)
-    pub is : t ≡ record { answer = 0; queue = advanced q (t .packet .count); packet = packetOf (take (t .packet .count) slots) }
-
-  by-scan : (p : List Slot) → lentOk q (length ring) (length list) ≡ true → scan (q .buffer) 0 slots ≡ whole p → HandedUp (takeBy (whole p) q)
+  by-scan : (p : List Slot) → lentOk q (length ring) (length list) ≡ true → scan (q .buffer) 0 slots ≡ whole p → HandedUp q ring list (takeBy (whole p) q)
   unfolding takeBy packetOf
   by-scan p a h =
       let b = seen-is (q .buffer) 0 slots p h in
@@ -139,14 +137,14 @@ module _ (q : RxQueue) (ring list : List ℕ) where
       }
 
   by-look : (a : Bool) (l : Look) → lentOk q (length ring) (length list) ≡ a → scan (q .buffer) 0 slots ≡ l → takeBy (cond (not a) (refuse 1) l) q .answer ≡ 0
-      → HandedUp (takeBy (cond (not a) (refuse 1) l) q)
+      → HandedUp q ring list (takeBy (cond (not a) (refuse 1) l) q)
   unfolding takeBy
   by-look false l e h z = let y : _≡_ {A = ℕ} 1 0 = z in absurd (omega arith)
   by-look true (refuse n) e h z = absurd (⊎-elim (λ f. omega arith) (λ f. omega arith) (refused-with (q .buffer) 0 slots n h))
   by-look true (whole p) e h z = by-scan p e h
 
   -- what take hands up are exactly the slots that it scanned
-  pub hands-up : takeOf q ring list .answer ≡ 0 → HandedUp (takeOf q ring list)
+  pub hands-up : takeOf q ring list .answer ≡ 0 → HandedUp q ring list (takeOf q ring list)
   unfolding takeOf look
   hands-up z = by-look (lentOk q (length ring) (length list)) (scan (q .buffer) 0 slots) refl refl z
 
@@ -155,14 +153,6 @@ module _ (q : RxQueue) (ring list : List ℕ) where
       → takeOf q ring list ≡ record { answer = 0; queue = advanced q (length p); packet = packetOf p }
   unfolding takeOf look takeBy
   hands-up-if p rest a c e = rw (a, e, is-seen (q .buffer) 0 p rest c)
-
-  -- slot by slot: the address that the list keeps for it, its length, 0 past the slots, and the sum of the lengths
-  pub record Told (t : Taken) : Type 0 where
-    pub address-at : (i : ℕ) → i < t .packet .count → getD (t .packet .addresses) i 0 ≡ getD list (slotOf q i) 0
-    pub length-at : (i : ℕ) → i < t .packet .count → getD (t .packet .lengths) i 0 ≡ lengthOf (slotIn ring list (slotOf q i) .words)
-    pub address-past : (i : ℕ) → t .packet .count ≤ i → getD (t .packet .addresses) i 0 ≡ 0
-    pub length-past : (i : ℕ) → t .packet .count ≤ i → getD (t .packet .lengths) i 0 ≡ 0
-    pub total-is : t .packet .total ≡ sum (lengthsOf (take (t .packet .count) slots))
 
   module _ (f : Slot → ℕ) (n : ℕ) (few : n ≤ packetSlots) (within : n ≤ q .posted) (i : ℕ) where
     abbrev told : List ℕ
@@ -190,7 +180,7 @@ module _ (q : RxQueue) (ring list : List ℕ) where
     place-past : n ≤ i → getD (padded told) i 0 ≡ 0
     place-past h = padded-told ∙ List·getD-eq-default told 0 {n = i} (rw told-long h)
 
-  pub tells : (t : Taken) → HandedUp t → Told t
+  pub tells : (t : Taken) → HandedUp q ring list t → Told q ring list t
   unfolding packetOf
   tells t u =
       let n : ℕ = t .packet .count in

@@ -18,20 +18,24 @@ use Rattle.writeback.specs.WriteBack.{Words, dd, eop, lengthOf, writeBackOf}
 use Rattle.receive.specs.declared.RxQueue.{RxQueue}
 use Rattle.receive.specs.Queue.{slotOf}
 use Rattle.receive.specs.Slots.{Slot, slotIn, postedSlots}
-use Rattle.receive.specs.Take.{packetSlots, lengthOk, endOk, Look, refuse, whole, andThen, scan, sum, padded, addressesOf, lengthsOf, packetOf, advanced, takeBy}
+use Rattle.receive.specs.Take.{packetSlots, lengthOk, endOk, allowed, Look, refuse, whole, andThen, scan, sum, padded, addressesOf, lengthsOf, packetOf, advanced, takeBy}
 use Rattle.receive.proofs.Packets.{padded-more, sum-more, map-more, last-more, after, after-more, after-refuse, after-whole}
 
 -- ---- one slot of a scan
 
-module _ (buffer k : ℕ) (s : Slot) (rest : List Slot) where
-  abbrev allowed : Bool
-  allowed = lengthOk buffer k (s .words) && endOk k (s .words)
+-- a slot that is allowed and is not the last is not the fifth
+pub not-fifth : (buffer k : ℕ) (s : Slot) → allowed buffer k (s .words) ≡ true → eop (s .words) ≡ false → suc k < packetSlots
+unfolding endOk
+not-fifth buffer k s a e =
+    let b = both (lengthOk buffer k (s .words)) (eop (s .words) || ltb (suc k) packetSlots) a .1 in
+    ltb-true (suc k) packetSlots (rw e at b)
 
+module _ (buffer k : ℕ) (s : Slot) (rest : List Slot) where
   pub not-done : dd (s .words) ≡ false → scan buffer k (s ∷ rest) ≡ refuse 4
   unfolding scan
   not-done d = rw d
 
-  pub not-allowed : dd (s .words) ≡ true → allowed ≡ false → scan buffer k (s ∷ rest) ≡ refuse 5
+  pub not-allowed : dd (s .words) ≡ true → allowed buffer k (s .words) ≡ false → scan buffer k (s ∷ rest) ≡ refuse 5
   unfolding scan
   not-allowed d a = rw d (go (lengthOk buffer k (s .words)) (endOk k (s .words)) a)
     where
@@ -40,20 +44,13 @@ module _ (buffer k : ℕ) (s : Slot) (rest : List Slot) where
       go true false z = refl
       go true true z = let y : _≡_ {A = ℕ} 0 1 = cc in absurd (omega arith)
 
-  pub allowed-last : dd (s .words) ≡ true → allowed ≡ true → eop (s .words) ≡ true → scan buffer k (s ∷ rest) ≡ whole (s ∷ [])
+  pub allowed-last : dd (s .words) ≡ true → allowed buffer k (s .words) ≡ true → eop (s .words) ≡ true → scan buffer k (s ∷ rest) ≡ whole (s ∷ [])
   unfolding scan
   allowed-last d a e = let b = both (lengthOk buffer k (s .words)) (endOk k (s .words)) a in rw (d, b .0, b .1, e)
 
-  pub allowed-on : dd (s .words) ≡ true → allowed ≡ true → eop (s .words) ≡ false → scan buffer k (s ∷ rest) ≡ andThen s (scan buffer (suc k) rest)
+  pub allowed-on : dd (s .words) ≡ true → allowed buffer k (s .words) ≡ true → eop (s .words) ≡ false → scan buffer k (s ∷ rest) ≡ andThen s (scan buffer (suc k) rest)
   unfolding scan
   allowed-on d a e = let b = both (lengthOk buffer k (s .words)) (endOk k (s .words)) a in rw (d, b .0, b .1, e)
-
-  -- a slot that is allowed and is not the last is not the fifth
-  pub not-fifth : allowed ≡ true → eop (s .words) ≡ false → suc k < packetSlots
-  unfolding endOk
-  not-fifth a e =
-      let b = both (lengthOk buffer k (s .words)) (eop (s .words) || ltb (suc k) packetSlots) a .1 in
-      ltb-true (suc k) packetSlots (rw e at b)
 
 module _ (q : RxQueue) (ring list : List ℕ) where
   -- the slot at distance k from head; the first k slots, and those after them
@@ -101,7 +98,7 @@ module _ (q : RxQueue) (ring list : List ℕ) where
       }
 
 -- the two rules of a slot look at its word 1 alone
-word1-only : (buffer k : ℕ) (x : Words) → lengthOk buffer k (record { word0 = 0; word1 = x .word1 }) && endOk k (record { word0 = 0; word1 = x .word1 }) ≡ lengthOk buffer k x && endOk k x
+word1-only : (buffer k : ℕ) (x : Words) → allowed buffer k (record { word0 = 0; word1 = x .word1 }) ≡ allowed buffer k x
 unfolding lengthOk endOk
 word1-only buffer k x = refl
 
@@ -120,9 +117,9 @@ module _ (q : RxQueue) (ring list addresses lengths : List ℕ) (total k : ℕ) 
     size = lengthOf (here .words)
 
     abbrev ok : Bool
-    ok = lengthOk (q .buffer) k (record { word0 = 0; word1 = here .words .word1 }) && endOk k (record { word0 = 0; word1 = here .words .word1 })
+    ok = allowed (q .buffer) k (record { word0 = 0; word1 = here .words .word1 })
 
-    allow : {b : Bool} → ok ≡ b → lengthOk (q .buffer) k (here .words) && endOk k (here .words) ≡ b
+    allow : {b : Bool} → ok ≡ b → allowed (q .buffer) k (here .words) ≡ b
     allow e = sym (word1-only (q .buffer) k (here .words)) ∙ e
 
     from-here : (l : Look) → scan (q .buffer) k (here ∷ rest q ring list (suc k)) ≡ l → scanned q ring list ≡ after (seen q ring list k) l
@@ -169,7 +166,7 @@ module _ (q : RxQueue) (ring list addresses lengths : List ℕ) (total k : ℕ) 
         → Walked q ring list (set addresses k (here .address)) (set lengths k size) (total + size) (k + 1)
     next d a e =
         record {
-          few = omega (arith, not-fifth (q .buffer) k here [] (allow a) e);
+          few = omega (arith, not-fifth (q .buffer) k here (allow a) e);
           within = omega arith;
           so-far = from-here _ (allowed-on _ _ here _ d (allow a) e) ∙ rw (more, add-one k) (sym (after-more _ _ _));
           addresses-are = addresses-more;

@@ -14,16 +14,16 @@ use Rattle.receive.specs.declared.Posted.{Posted}
 use Rattle.receive.specs.Queue.{lentOk, tailOf, movedTo}
 use Rattle.receive.specs.Slots.{storeWords}
 
--- of a ring and a list so long: 1 the record or a slice is wrong, 2 the address is wrong, 3 posted = size - 1
+-- 1 the record or a slice's length is wrong, 2 the address is wrong, 3 posted = size - 1
 abbrev pub postChecks : RxQueue → ℕ → ℕ → ℕ → List Check
-postChecks q ring list address =
-    1 when not (lentOk q ring list)
+postChecks q ringLength listLength address =
+    1 when not (lentOk q ringLength listLength)
     ∷ 2 when addressWrong address (q .buffer)
     ∷ 3 when eqb (q .posted) (q .size - 1)
     ∷ []
 
 unfoldable pub postAnswer : RxQueue → ℕ → ℕ → ℕ → ℕ
-postAnswer q ring list address = answerOf (postChecks q ring list address)
+postAnswer q ringLength listLength address = answerOf (postChecks q ringLength listLength address)
 
 -- a slot as it is posted: word 0 = address, word 1 = 0
 abbrev pub blank : ℕ → Words
@@ -53,3 +53,18 @@ module _ (q : RxQueue) (ring list : List ℕ) (address : ℕ) where
     pub result-is : r ≡ postOf
     pub ring-is : ring′ ≡ ringAfter
     pub list-is : list′ ≡ listAfter
+
+  -- a refused post changes nothing
+  pub record Unchanged : Type 0 where
+    pub queue-same : postOf .queue ≡ q
+    pub ring-same : ringAfter ≡ ring
+    pub list-same : listAfter ≡ list
+
+-- an outcome of a post, and that it meets the statement
+pub record Outcome : Type 0 where
+  pub result : Posted
+  pub ring : List ℕ
+  pub list : List ℕ
+
+abbrev pub Meets : RxQueue → List ℕ → List ℕ → ℕ → Outcome → Type 0
+Meets q ring list address o = PostedAs q ring list address (o .result) (o .ring) (o .list)

@@ -1,12 +1,11 @@
 -- The receive queue record (01, "The queue record"): the lines that it keeps, a fresh queue, the tail.
 -- Assumes nothing.
-use Prim.Native.Nat.{ℕ, _+_, _*_, _≤_, _<_}
-use mathlib.Core.Path.{_≡_}
+use Prim.Native.Nat.{ℕ, _+_, _*_}
 use mathlib.Core.Bool.{Bool, _&&_, cond}
 use lib.Dec.{eqb}
 use Rattle.rules.specs.Rules.{inSteps}
 use Rattle.ring.specs.Slots.{slotAt, tailAt}
-use Rattle.ring.specs.Sizes.{mostQueue, leastSize, mostSize, queueOk, placeOk}
+use Rattle.ring.specs.Sizes.{queueOk, placeOk}
 use Rattle.receive.specs.declared.RxQueue.{RxQueue}
 use Rattle.receive.specs.declared.Fresh.{Fresh}
 use Rattle.receive.specs.declared.Asked.{Asked}
@@ -29,30 +28,9 @@ numbersOk queue size buffer = queueOk queue size && inSteps leastBuffer mostBuff
 unfoldable pub recordOk : RxQueue → Bool
 recordOk q = numbersOk (q .queue) (q .size) (q .buffer) && placeOk (q .size) (q .head) (q .posted)
 
--- and lent slices of exactly the size's lengths: a ring and a companion list so long
+-- and lent slices whose lengths are exactly those of the size
 unfoldable pub lentOk : RxQueue → ℕ → ℕ → Bool
-lentOk q ring list = recordOk q && (eqb ring (2 * q .size) && eqb list (q .size))
-
--- what an accepted record keeps, as facts
-pub record Kept (q : RxQueue) : Type 0 where
-  pub queue-high : q .queue ≤ mostQueue
-  pub size-low : leastSize ≤ q .size
-  pub size-high : q .size ≤ mostSize
-  pub buffer-low : leastBuffer ≤ q .buffer
-  pub buffer-high : q .buffer ≤ mostBuffer
-  pub head-below : q .head < q .size
-  pub posted-below : q .posted < q .size
-
--- an accepted record, with one lent slice so long as it has to be
-pub record Ready (q : RxQueue) (long wanted : ℕ) : Type 0 where
-  pub is : Kept q
-  pub long-is : long ≡ wanted
-
--- the same for the ring and the list
-pub record Lent (q : RxQueue) (ring list : ℕ) : Type 0 where
-  pub is : Kept q
-  pub ring-long : ring ≡ 2 * q .size
-  pub list-long : list ≡ q .size
+lentOk q ringLength listLength = recordOk q && (eqb ringLength (2 * q .size) && eqb listLength (q .size))
 
 -- the slot at a distance from head, and the tail
 abbrev pub slotOf : RxQueue → ℕ → ℕ

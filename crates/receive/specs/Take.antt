@@ -1,11 +1,12 @@
 -- Take (01, "Receiving"): the device's rules on a packet's slots, what take sees of the posted slots, and what it returns.
 -- Assumes nothing.
 use Prim.Native.Nat.{ℕ, suc, _+_, _-_}
-use mathlib.Core.Bool.{Bool, not, _&&_, _||_, cond}
+use mathlib.Core.Bool.{Bool, true, not, _&&_, _||_, cond}
 use mathlib.Core.List.{List, [], _∷_, _++_, map}
 use lib.Dec.{leb, ltb}
 use lib.ListN.{length, take, replicate}
-use Rattle.writeback.specs.WriteBack.{Words, dd, eop, lengthOf, writeBackOf}
+use Rattle.rules.specs.Rules.{Check, _when_}
+use Rattle.writeback.specs.WriteBack.{Words, dd, eop, lengthOf, writeBackOf, noWriteBack}
 use Rattle.receive.specs.declared.RxQueue.{RxQueue}
 use Rattle.receive.specs.declared.Packet.{Packet}
 use Rattle.receive.specs.declared.Taken.{Taken}
@@ -26,9 +27,12 @@ lengthOk buffer k x = leb (lengthOf x) buffer && (leb 1 (lengthOf x) || (eop x &
 unfoldable pub endOk : ℕ → Words → Bool
 endOk k x = eop x || ltb (suc k) packetSlots
 
--- what the device may write to a slot whose packet has k slots before it
+-- what the rules allow in a slot whose packet has k slots before it, and what the device may write there
+abbrev pub allowed : ℕ → ℕ → Words → Bool
+allowed buffer k x = lengthOk buffer k x && endOk k x
+
 unfoldable pub writable : ℕ → ℕ → Words → Bool
-writable buffer k x = dd x && (lengthOk buffer k x && endOk k x)
+writable buffer k x = dd x && allowed buffer k x
 
 -- ---- what take sees: a number that refuses, or the slots of a whole packet
 
@@ -57,6 +61,20 @@ unfoldable pub look : RxQueue → List ℕ → List ℕ → Look
 look q ring list =
     cond (not (lentOk q (length ring) (length list))) (refuse 1)
     (scan (q .buffer) 0 (postedSlots q ring list))
+
+-- the same as checks in their order, for the exact cause of each number: at each slot DD clear 4, a length that the rules forbid 5,
+-- a fifth slot without EOP 5, EOP done; past the posted ones 4
+unfoldable pub slotChecks : ℕ → ℕ → List Slot → List Check
+slotChecks buffer k [] = 4 when true ∷ []
+slotChecks buffer k (s ∷ rest) =
+    4 when not (dd (s .words))
+    ∷ 5 when not (lengthOk buffer k (s .words))
+    ∷ 5 when not (endOk k (s .words))
+    ∷ 0 when eop (s .words)
+    ∷ slotChecks buffer (suc k) rest
+
+abbrev pub takeChecks : RxQueue → List ℕ → List ℕ → List Check
+takeChecks q ring list = 1 when not (lentOk q (length ring) (length list)) ∷ slotChecks (q .buffer) 0 (postedSlots q ring list)
 
 -- ---- what take tells of a packet's slots: unused places are 0
 
@@ -89,11 +107,22 @@ packetOf p =
       last = writeBackOf (lastWords p);
     }
 
+-- zeros in all fields: what a refusal gives for a packet
+abbrev pub noPacket : Packet
+noPacket =
+    record {
+      count = 0;
+      total = 0;
+      addresses = 0 ∷ 0 ∷ 0 ∷ 0 ∷ 0 ∷ [];
+      lengths = 0 ∷ 0 ∷ 0 ∷ 0 ∷ 0 ∷ [];
+      last = noWriteBack;
+    }
+
 -- head moves on by a count, posted falls by it
 abbrev pub advanced : RxQueue → ℕ → RxQueue
 advanced q n = movedTo q (slotOf q n) (q .posted - n)
 
--- a refusal returns the record as it came and a packet of no slots, which is zeros throughout
+-- a refusal returns the record as it came and the packet of no slots, which is `noPacket`
 unfoldable pub takeBy : Look → RxQueue → Taken
 takeBy (refuse n) q = record { answer = n; queue = q; packet = packetOf [] }
 takeBy (whole p) q = record { answer = 0; queue = advanced q (length p); packet = packetOf p }

@@ -1,17 +1,16 @@
 // Post: the answer first, then the slot at the tail.
 ghost use mathlib.Core.Path.{_≡_};
 ghost use lib.ListN.{length};
-ghost use Rattle.receive.specs.Queue.{Kept, Lent};
 ghost use Rattle.receive.specs.Post.{postAnswer, oneMore, PostedAs};
-ghost use Rattle.receive.specs.Steps.{PutAs};
+ghost use Rattle.receive.specs.Steps.{Kept, Lent, PutAs};
 use crate::Posted;
 use crate::RxQueue;
 
 impl RxQueue {
-    fn post_answer(self, ring: usize, list: usize, address: u64) -> u8
-        ensures { λ r. ⌜ r ≡ postAnswer self ring list address ⌝ }
+    fn post_answer(self, ring_length: usize, list_length: usize, address: u64) -> u8
+        ensures { λ r. ⌜ r ≡ postAnswer self «ring_length» «list_length» address ⌝ }
     {
-        if self.lent_ok(ring, list) {
+        if self.lent_ok(ring_length, list_length) {
             if rules::address_wrong(address, self.buffer as u64) {
                 2
             } else {
@@ -46,6 +45,7 @@ impl RxQueue {
         }
     }
 
+    // Answers 1, 2 or 3 in this order, or 0 with the slot posted; a refusal changes nothing.
     pub fn post(self, ring: &mut [u64], list: &mut [u64], address: u64) -> Posted
         ensures { λ r. ⌜ PostedAs self (now (ring .entry)) (now (list .entry)) address r (now (ring .exit)) (now (list .exit)) ⌝ }
     {

@@ -22,6 +22,7 @@ fn numbers_ok(queue: usize, size: usize, buffer: usize) -> bool
 }
 
 impl RxQueue {
+    // Answers 0 with an empty queue, or 1 with an all-zero record where a number is outside the lines.
     pub fn fresh(queue: usize, size: usize, buffer: usize) -> Fresh
         ensures { λ r. ⌜ r ≡ freshOf queue size buffer ⌝ }
     {
@@ -58,16 +59,17 @@ impl RxQueue {
     }
 
     // The record, and the lengths of the lent ring and companion list.
-    pub(crate) fn lent_ok(self, ring: usize, list: usize) -> bool
-        ensures { λ r. ⌜ r ≡ lentOk self ring list ⌝ }
+    pub(crate) fn lent_ok(self, ring_length: usize, list_length: usize) -> bool
+        ensures { λ r. ⌜ r ≡ lentOk self «ring_length» «list_length» ⌝ }
     {
         if self.record_ok() {
-            (ring == 2 * self.size) & (list == self.size)
+            (ring_length == 2 * self.size) & (list_length == self.size)
         } else {
             false
         }
     }
 
+    // Answers 0 with the tail value, or 1 with 0 where the record breaks a line.
     pub fn tail_value(self) -> Asked
         ensures { λ r. ⌜ r ≡ tailValueOf self ⌝ }
     {
@@ -84,6 +86,7 @@ impl RxQueue {
         }
     }
 
+    // Answers 0 with the register's offset, or 1 with 0 where the record breaks a line.
     pub fn tail_register(self) -> Asked
         ensures { λ r. ⌜ r ≡ tailRegisterOf self ⌝ }
     {

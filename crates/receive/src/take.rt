@@ -1,13 +1,11 @@
 // Take: the posted slots from head upward, until one completes the packet or refuses.
 ghost use mathlib.Core.Path.{_≡_};
-ghost use mathlib.Core.Bool.{_&&_};
 ghost use Prim.Native.Nat.{_<_};
 ghost use lib.ListN.{length};
 ghost use Rattle.ring.specs.Sizes.{mostSize};
-ghost use Rattle.receive.specs.Queue.{Lent};
 ghost use Rattle.receive.specs.Slots.{postedSlots};
-ghost use Rattle.receive.specs.Take.{Look, lengthOk, endOk, advanced, scan, takeBy, takeOf};
-ghost use Rattle.receive.specs.Steps.{Handed};
+ghost use Rattle.receive.specs.Take.{Look, allowed, advanced, scan, takeBy, takeOf};
+ghost use Rattle.receive.specs.Steps.{Lent, Handed};
 use crate::PACKET_SLOTS;
 use crate::Packet;
 use crate::RxQueue;
@@ -16,7 +14,7 @@ use crate::Taken;
 // What the device's rules allow in a slot with k slots of its packet before it.
 fn slot_ok(buffer: usize, k: usize, word1: u64) -> bool
     requires { ⌜ k < mostSize ⌝ }
-    ensures { λ r. ⌜ r ≡ (lengthOk buffer k (record { word0 = 0; word1 = word1 }) && endOk k (record { word0 = 0; word1 = word1 })) ⌝ }
+    ensures { λ r. ⌜ r ≡ allowed buffer k (record { word0 = 0; word1 = word1 }) ⌝ }
 {
     let length = writeback::length(word1);
     let last = writeback::eop(word1);
@@ -100,6 +98,7 @@ impl RxQueue {
         self.refused(4)
     }
 
+    // Answers 1, then 4 or 5 at the first slot that asks for it, or 0 with the packet; a refusal gives the record as it came and zeros.
     pub fn take(self, ring: &[u64], list: &[u64]) -> Taken
         ensures { λ r. ⌜ r ≡ takeOf self (now (ring .entry)) (now (list .entry)) ⌝ }
     {

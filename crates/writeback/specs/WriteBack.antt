@@ -1,7 +1,7 @@
 -- A received slot's two words as the device wrote them (01, "Receiving"; Intel's Section 2.1.2.2 and Table 2-4).
 -- Assumes nothing.
 use Prim.Native.Nat.{ℕ}
-use mathlib.Core.Bool.{Bool, _||_, cond}
+use mathlib.Core.Bool.{Bool, false, _||_, cond}
 use lib.Dec.{eqb}
 use Rattle.rules.specs.Rules.{within}
 use Rattle.writeback.specs.declared.Family.{Family}
@@ -47,6 +47,30 @@ tagOf x = cond (isSet l2tag1pPlace (x .word1)) (readAt l2tag1Place (x .word0)) 0
 
 abbrev pub hashOf : Words → ℕ
 hashOf x = cond (eqb (readAt fltstatPlace (x .word1)) 3) (readAt filterPlace (x .word0)) 0
+
+-- zeros in all fields, of the family unknown
+abbrev pub noWriteBack : WriteBack
+noWriteBack =
+    record {
+      tag = 0;
+      hash = 0;
+      dd = false;
+      eop = false;
+      l2tag1p = false;
+      l3l4p = false;
+      crcp = false;
+      umbcast = 0;
+      fltstat = 0;
+      lpbk = false;
+      ipv6exadd = false;
+      int_udp_0 = false;
+      ipe = false;
+      l4e = false;
+      oversize = false;
+      ptype = 0;
+      length = 0;
+      family = Unknown;
+    }
 
 -- field for field
 unfoldable pub writeBackOf : Words → WriteBack
