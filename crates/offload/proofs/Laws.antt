@@ -10,7 +10,8 @@ use lib.Dec.{leb, eqb}
 use lib.ListN.{length, getD}
 use Rattle.rules.specs.Rules.{within, inSteps}
 use Rattle.rules.proofs.Tests.{same, both, within-is, steps-is, all-each}
-use Rattle.segments.specs.Touch.{sumLimit, startOf, total, headerWithin}
+use Rattle.segments.specs.Touch.{startOf, total, headerWithin}
+use Rattle.segments.specs.Steps.{sumLimit}
 use Rattle.segments.proofs.Starts.{start-zero, start-next}
 use Rattle.offload.specs.declared.IpKind.{IpKind}
 use Rattle.offload.specs.declared.IpKind.the-variants.{None as NoIp, Ipv6, Ipv4, Ipv4Checksum}

@@ -8,7 +8,8 @@ use lib.Dec.{leb, eqb}
 use lib.ListN.{length, getD}
 use Rattle.rules.specs.Rules.{within, inSteps, allBelow, Check, _when_}
 use Rattle.rules.specs.Address.{addressWrong}
-use Rattle.segments.specs.Touch.{total, headerWithin, isCrowded, Checked}
+use Rattle.segments.specs.Touch.{total, headerWithin, isCrowded}
+use Rattle.segments.specs.Steps.{Checked}
 use Rattle.offload.specs.declared.IpKind.{IpKind}
 use Rattle.offload.specs.declared.IpKind.the-variants.{None as NoIp, Ipv6, Ipv4, Ipv4Checksum}
 use Rattle.offload.specs.declared.L4Kind.{L4Kind}

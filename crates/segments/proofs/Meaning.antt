@@ -9,12 +9,8 @@ use native.Mathlib.Nat.{mul-zero, mul-le-mul-left}
 use borrow.Author.Tests.{lt-ltb, ltb-true}
 use lib.Dec.{ltb}
 use lib.ListN.{length}
-use Rattle.segments.specs.Touch.{mostTouched, countBelow, startOf, holds, coversFrom, coversUpto, touches, touched, isCrowded}
+use Rattle.segments.specs.Touch.{mostTouched, countBelow, startOf, holds, InPiece, coversFrom, coversUpto, OfSegment, touches, touched, isCrowded}
 use Rattle.segments.proofs.Count.{some-is, count-le}
-
--- byte b is in piece i
-abbrev pub InPiece : List ℕ → ℕ → ℕ → Type 0
-InPiece ls i b = (startOf ls i ≤ b) × (b < startOf ls (suc i))
 
 pub holds-is : (ls : List ℕ) (from upto i : ℕ) → (holds ls from upto i ≡ true) ↔ ((b : ℕ) × InPiece ls i b × (from ≤ b) × (b < upto))
 holds-is ls from upto i = (
@@ -36,14 +32,10 @@ below ls header zero tlen k b m =
 below ls header (suc s) tlen k b m = (k, omega (arith, mul-le-mul-left {m = 1} {n = suc s} k (omega arith)), b, m)
 
 module _ (ls : List ℕ) (header mss tlen : ℕ) where
-  -- a header byte, or one of segment k's payload bytes
-  abbrev pub OfSegment : ℕ → ℕ → Type 0
-  OfSegment k b = (b < header) ⊎ ((coversFrom header mss k ≤ b) × (b < coversUpto header mss tlen k))
-
-  pub touches-is : (k i : ℕ) → (touches ls header mss tlen k i ≡ true) ↔ ((b : ℕ) × InPiece ls i b × OfSegment k b)
+  pub touches-is : (k i : ℕ) → (touches ls header mss tlen k i ≡ true) ↔ ((b : ℕ) × InPiece ls i b × OfSegment header mss tlen k b)
   touches-is k i = by (holds ls 0 header i) refl
     where
-      by : (h : Bool) → holds ls 0 header i ≡ h → (h || holds ls (coversFrom header mss k) (coversUpto header mss tlen k) i ≡ true) ↔ ((b : ℕ) × InPiece ls i b × OfSegment k b)
+      by : (h : Bool) → holds ls 0 header i ≡ h → (h || holds ls (coversFrom header mss k) (coversUpto header mss tlen k) i ≡ true) ↔ ((b : ℕ) × InPiece ls i b × OfSegment header mss tlen k b)
       by true e = (λ _. let (b, p, f, u) = holds-is ls 0 header i .0 e in (b, p, inl u), λ _. refl)
       by false e = (
         λ q. let (b, p, f, u) = holds-is ls (coversFrom header mss k) (coversUpto header mss tlen k) i .0 q in (b, p, inr (f, u)),

@@ -9,7 +9,8 @@ use native.Mathlib.Nat.{div-eq-of-lt, zero-mul}
 use native.Mathlib.Decide.{decLt}
 use borrow.Author.Count.{below-more}
 use lib.ListN.{length, getD}
-use Rattle.segments.specs.Touch.{mostTouched, headerPieces, sumLimit, startOf, isCrowded, Checked, Headed}
+use Rattle.segments.specs.Touch.{mostTouched, headerPieces, startOf, isCrowded}
+use Rattle.segments.specs.Steps.{sumLimit, Checked, Headed}
 use Rattle.segments.proofs.Starts.{start-next, start-up, start-whole}
 use Rattle.segments.proofs.Window.{Window, window-is, yes-window, no-window}
 

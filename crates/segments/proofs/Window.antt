@@ -8,7 +8,8 @@ use mathlib.Core.Logic.{_↔_, inl, inr, ⊎-elim}
 use native.Mathlib.Omega.{arith}
 use native.Mathlib.Nat.{mul-le-mul-right, div-lt-iff-lt-mul, lt-div-mul-add}
 use lib.ListN.{length}
-use Rattle.segments.specs.Touch.{mostTouched, startOf, coversFrom, coversUpto, touches, isCrowded, Checked, Headed}
+use Rattle.segments.specs.Touch.{mostTouched, startOf, coversFrom, coversUpto, touches, isCrowded}
+use Rattle.segments.specs.Steps.{Checked, Headed}
 use Rattle.segments.proofs.Count.{Band, Run, run-counted, counted-run}
 use Rattle.segments.proofs.Starts.{start-up, start-next, start-before}
 use Rattle.segments.proofs.Meaning.{touches-is, crowded-is, not-crowded}

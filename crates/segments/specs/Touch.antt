@@ -1,7 +1,7 @@
 -- Which pieces a segment touches, and whether some segment touches too many (document 01, "Sending"). Bytes are counted over
 -- the whole packet: the header is its first bytes, and payload byte p is the packet's byte header + p. Assumes nothing.
-use Prim.Native.Nat.{ℕ, zero, suc, _+_, _*_, _^_, _≤_, _<_, min, max}
-use mathlib.Core.Path.{_≡_}
+use Prim.Native.Nat.{ℕ, zero, suc, _+_, _*_, _≤_, _<_, min, max}
+use mathlib.Core.Logic.{_⊎_}
 use mathlib.Core.Bool.{Bool, false, cond, _&&_, _||_}
 use mathlib.Core.List.{List}
 use lib.Dec.{leb, ltb}
@@ -14,10 +14,6 @@ mostTouched = 8
 -- the header of a segmented send ends within this many pieces, the first
 abbrev pub headerPieces : ℕ
 headerPieces = 3
-
--- every total of pieces that are few and short enough is below this
-abbrev pub sumLimit : ℕ
-sumLimit = 2 ^ 32
 
 -- how many of 0, 1, .. n - 1 pass a test
 unfoldable pub countBelow : ℕ → (ℕ → Bool) → ℕ
@@ -46,6 +42,10 @@ headerWithin ls header = leb header (startOf ls headerPieces)
 abbrev pub holds : List ℕ → ℕ → ℕ → ℕ → Bool
 holds ls from upto i = ltb (max (startOf ls i) from) (min (startOf ls (suc i)) upto)
 
+-- byte b is in piece i
+abbrev pub InPiece : List ℕ → ℕ → ℕ → Type 0
+InPiece ls i b = (startOf ls i ≤ b) × (b < startOf ls (suc i))
+
 -- segment k covers payload bytes k * mss up to the lesser of (k + 1) * mss and tlen: of the packet's bytes, those from here
 abbrev pub coversFrom : ℕ → ℕ → ℕ → ℕ
 coversFrom header mss k = header + k * mss
@@ -53,6 +53,10 @@ coversFrom header mss k = header + k * mss
 -- up to here
 abbrev pub coversUpto : ℕ → ℕ → ℕ → ℕ → ℕ
 coversUpto header mss tlen k = header + min ((k + 1) * mss) tlen
+
+-- byte b is one of the header, or of the payload that segment k covers
+abbrev pub OfSegment : ℕ → ℕ → ℕ → ℕ → ℕ → Type 0
+OfSegment header mss tlen k b = (b < header) ⊎ ((coversFrom header mss k ≤ b) × (b < coversUpto header mss tlen k))
 
 -- segment k touches piece i: the piece holds a header byte, or one of the segment's payload bytes
 abbrev pub touches : List ℕ → ℕ → ℕ → ℕ → ℕ → ℕ → Bool
@@ -66,22 +70,3 @@ touched ls header mss tlen k = countBelow (length ls) (touches ls header mss tle
 -- segments are alike
 unfoldable pub isCrowded : List ℕ → ℕ → ℕ → ℕ → Bool
 isCrowded ls header mss tlen = someBelow tlen (λ k. ltb (k * mss) tlen && ltb mostTouched (touched ls header mss tlen k))
-
--- the first n pieces can be added up
-pub record Summed (ls : List ℕ) (n : ℕ) : Type 0 where
-  pub upto : n ≤ length ls
-  pub small : total ls < 2 ^ 64
-
--- what the checks before have shown of a segmented send
-pub record Checked (ls : List ℕ) (header mss tlen : ℕ) : Type 0 where
-  pub whole : total ls ≡ header + tlen
-  pub small : total ls < sumLimit
-  pub each : (i : ℕ) → i < length ls → 1 ≤ getD ls i 0
-  pub within : header ≤ startOf ls headerPieces
-  pub spaced : 1 ≤ mss
-
--- exactly the first r pieces hold a header byte
-pub record Headed (ls : List ℕ) (header r : ℕ) : Type 0 where
-  pub few : r ≤ headerPieces
-  pub inside : (i : ℕ) → i < r → startOf ls i < header
-  pub past : header ≤ startOf ls r

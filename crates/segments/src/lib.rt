@@ -3,7 +3,8 @@
 ghost use mathlib.Core.Path.{_≡_};
 ghost use Prim.Native.Nat.{_*_, _/_, _≤_, _<_, _^_, min};
 ghost use lib.ListN.{length};
-ghost use Rattle.segments.specs.Touch.{headerPieces, sumLimit, startOf, total, headerWithin, isCrowded, Summed, Checked, Headed};
+ghost use Rattle.segments.specs.Touch.{headerPieces, startOf, total, headerWithin, isCrowded};
+ghost use Rattle.segments.specs.Steps.{sumLimit, Summed, Checked, Headed};
 
 // A segment may touch this many pieces.
 const MOST_TOUCHED: usize = 8;
@@ -12,7 +13,7 @@ const MOST_TOUCHED: usize = 8;
 const HEADER_PIECES: usize = 3;
 
 // The bytes of the first `n` pieces.
-pub fn sum(lengths: &[u64], n: usize) -> u64
+fn sum(lengths: &[u64], n: usize) -> u64
     requires { ⌜ Summed (now lengths) n ⌝ }
     ensures { λ r. ⌜ r ≡ startOf (now (lengths .entry)) n ⌝ }
 {
