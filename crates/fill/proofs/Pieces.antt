@@ -19,7 +19,7 @@ use Rattle.descriptor.specs.Words.{dataWord, lengthLine}
 use Rattle.offload.specs.declared.Request.{Request}
 use Rattle.offload.specs.Request.{slotsOf, dataOf}
 use Rattle.fill.specs.Descriptors.{pieceNumbers, contextNumbers, descriptor}
-use Rattle.fill.specs.Room.{leadingNumbers}
+use Rattle.fill.specs.Steps.{leadingNumbers}
 use Rattle.fill.proofs.Rows.{row-agree, row-first}
 use Rattle.fill.proofs.Words.{with-length}
 use Rattle.fill.proofs.Places.{context-first, piece-at}
@@ -64,7 +64,7 @@ module _ (request : Request) (addresses lengths : List ℕ) (size start : ℕ) w
   -- the context descriptor, then the pieces
   pub put-segmented : (ring : List ℕ) → request .segmented ≡ true → start < size → {first word : ℕ} {ring₁ ring₂ : List ℕ}
       → first ≡ slotAt start size 1
-      → (0 ∷ word ∷ []) ≡ contextNumbers request addresses lengths
+      → (0 ∷ word ∷ []) ≡ contextNumbers request
       → ring₁ ≡ store 2 ring start (0 ∷ word ∷ [])
       → ring₂ ≡ storeRun 2 size (pieceNumbers request addresses lengths) ring₁ first (length lengths)
       → ring₂ ≡ storeRun 2 size (descriptor request addresses lengths) ring start (slotsOf request (length lengths))

@@ -24,16 +24,16 @@ module _ (request : Request) (addresses lengths : List ℕ) where
   pub two-words : (k : ℕ) → length (descriptor request addresses lengths k) ≡ 2
   two-words k = go (request .segmented) (eqb k 0)
     where
-      go : (b z : Bool) → length (cond b (cond z (contextNumbers request addresses lengths) (pieceNumbers request addresses lengths (k - 1))) (pieceNumbers request addresses lengths k)) ≡ 2
+      go : (b z : Bool) → length (cond b (cond z (contextNumbers request) (pieceNumbers request addresses lengths (k - 1))) (pieceNumbers request addresses lengths k)) ≡ 2
       go true true = refl
       go true false = refl
       go false z = refl
 
-  pub context-first : request .segmented ≡ true → descriptor request addresses lengths 0 ≡ contextNumbers request addresses lengths
+  pub context-first : request .segmented ≡ true → descriptor request addresses lengths 0 ≡ contextNumbers request
   context-first t = rw t
 
   -- a piece after the context descriptor
-  after-context : (k : ℕ) → cond (eqb (k + 1) 0) (contextNumbers request addresses lengths) (pieceNumbers request addresses lengths (k + 1 - 1)) ≡ pieceNumbers request addresses lengths k
+  after-context : (k : ℕ) → cond (eqb (k + 1) 0) (contextNumbers request) (pieceNumbers request addresses lengths (k + 1 - 1)) ≡ pieceNumbers request addresses lengths k
   after-context k =
       rw (ne-eqb (k + 1) 0 (λ e. omega arith))
       (ap (λ (j : ℕ). pieceNumbers request addresses lengths j) {x = k + 1 - 1} {y = k} (omega arith))
@@ -41,6 +41,6 @@ module _ (request : Request) (addresses lengths : List ℕ) where
   pub piece-at : (i : ℕ) → descriptor request addresses lengths (slotsOf request i) ≡ pieceNumbers request addresses lengths i
   piece-at i = go (request .segmented)
     where
-      go : (b : Bool) → cond b (cond (eqb (cond b (i + 1) i) 0) (contextNumbers request addresses lengths) (pieceNumbers request addresses lengths (cond b (i + 1) i - 1))) (pieceNumbers request addresses lengths (cond b (i + 1) i)) ≡ pieceNumbers request addresses lengths i
+      go : (b : Bool) → cond b (cond (eqb (cond b (i + 1) i) 0) (contextNumbers request) (pieceNumbers request addresses lengths (cond b (i + 1) i - 1))) (pieceNumbers request addresses lengths (cond b (i + 1) i)) ≡ pieceNumbers request addresses lengths i
       go true = after-context i
       go false = refl

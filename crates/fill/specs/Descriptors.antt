@@ -9,19 +9,19 @@ use Rattle.descriptor.specs.Words.{dataWord, contextWord}
 use Rattle.offload.specs.declared.Request.{Request}
 use Rattle.offload.specs.Request.{dataOf, contextOf}
 
-module _ (request : Request) (addresses lengths : List ℕ) where
-  -- EOP and RS stand on the last data descriptor only
-  abbrev pub isLast : ℕ → Bool
-  isLast i = eqb (i + 1) (length lengths)
+-- EOP and RS stand on the last data descriptor only
+abbrev pub isLast : List ℕ → ℕ → Bool
+isLast lengths i = eqb (i + 1) (length lengths)
 
-  -- piece i: word 0 the address
-  abbrev pub pieceNumbers : ℕ → List ℕ
-  pieceNumbers i = getD addresses i 0 ∷ dataWord (dataOf request (getD lengths i 0) (isLast i)) ∷ []
+-- piece i: word 0 the address
+abbrev pub pieceNumbers : Request → List ℕ → List ℕ → ℕ → List ℕ
+pieceNumbers request addresses lengths i = getD addresses i 0 ∷ dataWord (dataOf request (getD lengths i 0) (isLast lengths i)) ∷ []
 
-  -- the context descriptor: word 0 is 0
-  abbrev pub contextNumbers : List ℕ
-  contextNumbers = 0 ∷ contextWord (contextOf request) ∷ []
+-- the context descriptor: word 0 is 0
+abbrev pub contextNumbers : Request → List ℕ
+contextNumbers request = 0 ∷ contextWord (contextOf request) ∷ []
 
-  -- one context descriptor before the pieces if segmented
-  abbrev pub descriptor : ℕ → List ℕ
-  descriptor k = cond (request .segmented) (cond (eqb k 0) contextNumbers (pieceNumbers (k - 1))) (pieceNumbers k)
+-- one context descriptor before the pieces if segmented
+abbrev pub descriptor : Request → List ℕ → List ℕ → ℕ → List ℕ
+descriptor request addresses lengths k =
+    cond (request .segmented) (cond (eqb k 0) (contextNumbers request) (pieceNumbers request addresses lengths (k - 1))) (pieceNumbers request addresses lengths k)

@@ -6,7 +6,7 @@ ghost use lib.ListN.{length};
 ghost use Rattle.ring.specs.Memory.{store, storeRun};
 ghost use Rattle.offload.specs.Request.{slotsOf};
 ghost use Rattle.fill.specs.Descriptors.{pieceNumbers, descriptor};
-ghost use Rattle.fill.specs.Room.{Room, leadingNumbers};
+ghost use Rattle.fill.specs.Steps.{Room, leadingNumbers};
 use descriptor::LENGTH;
 use offload::Request;
 use offload::piece_word;

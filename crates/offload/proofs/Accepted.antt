@@ -13,7 +13,7 @@ use Rattle.rules.proofs.Tests.{none, all-each}
 use Rattle.rules.proofs.Checks.{passed}
 use Rattle.offload.specs.declared.Request.{Request}
 use Rattle.offload.specs.Request.{slotsOf}
-use Rattle.offload.specs.Offload.{piecesOk, addressesOk, requestOk, sendChecks}
+use Rattle.offload.specs.Offload.{piecesOk, addressesOk, requestOk, packetChecks}
 use Rattle.offload.specs.Accepted.{Accepted}
 use Rattle.offload.proofs.Laws.{pieces-are, request-is}
 
@@ -33,12 +33,12 @@ module _ (addresses lengths : List ℕ) (maximum : ℕ) (q : Request) where
     pub addresses-right : addressesOk addresses lengths ≡ true
     pub request : requestOk lengths maximum q ≡ true
 
-  pub passes-all : answerOf (sendChecks addresses lengths maximum q) ≡ 0 → Passed
+  pub passes-all : answerOf (packetChecks addresses lengths maximum q) ≡ 0 → Passed
   passes-all e =
-      let p = passed (sendChecks addresses lengths maximum q) tt e in
+      let p = passed (packetChecks addresses lengths maximum q) tt e in
       record { pieces = not-false _ (p 0); addresses-right = not-false _ (p 1); request = not-false _ (p 2) }
 
-  pub accepted : answerOf (sendChecks addresses lengths maximum q) ≡ 0 → Accepted addresses lengths maximum q
+  pub accepted : answerOf (packetChecks addresses lengths maximum q) ≡ 0 → Accepted addresses lengths maximum q
   accepted e =
       let p = passes-all e in
       let c = pieces-are addresses lengths maximum q (p .pieces) in

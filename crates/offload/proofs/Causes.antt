@@ -11,7 +11,7 @@ use Rattle.rules.proofs.Checks.{has-cause, is-answered}
 use Rattle.segments.specs.Touch.{mostTouched, touched}
 use Rattle.segments.proofs.Meaning.{touched-few}
 use Rattle.offload.specs.declared.Request.{Request}
-use Rattle.offload.specs.Offload.{piecesOk, addressesOk, requestOk, sendChecks}
+use Rattle.offload.specs.Offload.{piecesOk, addressesOk, requestOk, packetChecks}
 use Rattle.offload.proofs.Laws.{plain-few}
 
 -- 6, 2 and 7 are not 8
@@ -24,14 +24,14 @@ not-eight true true true true x e h = true≢false e
 
 module _ (addresses lengths : List ℕ) (maximum : ℕ) (q : Request) where
   -- a number is answered exactly if its cause holds and no earlier one does
-  pub refused-for : (n : ℕ) → answerOf (sendChecks addresses lengths maximum q) ≡ n → (n ≡ 0 → ⊥) → (i : ℕ) × Answers (sendChecks addresses lengths maximum q) n i
-  refused-for = has-cause (sendChecks addresses lengths maximum q)
+  pub refused-for : (n : ℕ) → answerOf (packetChecks addresses lengths maximum q) ≡ n → (n ≡ 0 → ⊥) → (i : ℕ) × Answers (packetChecks addresses lengths maximum q) n i
+  refused-for = has-cause (packetChecks addresses lengths maximum q)
 
-  pub refuses : (n i : ℕ) → Answers (sendChecks addresses lengths maximum q) n i → answerOf (sendChecks addresses lengths maximum q) ≡ n
-  refuses = is-answered (sendChecks addresses lengths maximum q)
+  pub refuses : (n i : ℕ) → Answers (packetChecks addresses lengths maximum q) n i → answerOf (packetChecks addresses lengths maximum q) ≡ n
+  refuses = is-answered (packetChecks addresses lengths maximum q)
 
   -- a plain send is never refused with 8
-  pub plain-never : q .segmented ≡ false → answerOf (sendChecks addresses lengths maximum q) ≡ 8 → ⊥
+  pub plain-never : q .segmented ≡ false → answerOf (packetChecks addresses lengths maximum q) ≡ 8 → ⊥
   plain-never e h =
       not-eight (piecesOk addresses lengths maximum q) (addressesOk addresses lengths) (requestOk lengths maximum q) (q .segmented) _ e h
 

@@ -19,8 +19,9 @@ use Rattle.offload.specs.declared.L4Kind.{L4Kind}
 use Rattle.offload.specs.declared.L4Kind.the-variants.{None as NoL4, Tcp, Sctp, Udp}
 use Rattle.offload.specs.declared.Request.{Request}
 use Rattle.offload.specs.Request.{isNoIp, isNoL4, isTcp, hasChecksum, headerOf}
-use Rattle.offload.specs.Offload.{mostLength, plainPieces, mostPieces, mostHeader, mostTlen, leastMss, mostTag, mostPiecesOf, lengthsOk, totalOk, piecesOk, ipLengthOk, l4LengthOk, headersOk, tagOk, segmentedOk, segmentationOk, requestOk, Segmentable}
+use Rattle.offload.specs.Offload.{mostLength, plainPieces, mostPieces, mostHeader, mostTlen, leastMss, mostTag, mostPiecesOf, lengthsOk, totalOk, piecesOk, ipLengthOk, l4LengthOk, headersOk, tagOk, segmentedOk, segmentationOk, requestOk}
 use Rattle.offload.specs.Accepted.{Units, Sound}
+use Rattle.offload.specs.Steps.{Segmentable}
 
 -- a number that equals one of two numbers exactly if it equals the other
 pub eqb-same : (a b c : ℕ) → (a ≡ b → a ≡ c) → (a ≡ c → a ≡ b) → eqb a b ≡ eqb a c

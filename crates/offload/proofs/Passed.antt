@@ -14,7 +14,7 @@ use Rattle.rules.proofs.Tests.{both, and-both, within-is, all-none, all-more, a
 use Rattle.segments.specs.Touch.{startOf}
 use Rattle.segments.proofs.Starts.{start-zero, start-step}
 use Rattle.offload.specs.Offload.{mostLength, mostPiecesOf, lengthsOk}
-use Rattle.offload.specs.Walk.{Walkable}
+use Rattle.offload.specs.Steps.{Walkable}
 use Rattle.offload.proofs.Laws.{most-is}
 
 module _ (addresses lengths : List ℕ) where
@@ -24,23 +24,23 @@ module _ (addresses lengths : List ℕ) where
   abbrev addressAt : ℕ → Bool
   addressAt i = not (addressWrong (getD addresses i 0) (getD lengths i 0))
 
-  pub record Passed (reached : Bool) (sum i : ℕ) : Type 0 where
+  pub record Passed (addresses-ok : Bool) (sum i : ℕ) : Type 0 where
     pub upto : i ≤ length lengths
     pub right : true ≡ allBelow i lengthAt
-    pub reached-is : reached ≡ allBelow i addressAt
+    pub addresses-is : addresses-ok ≡ allBelow i addressAt
     pub sum-is : sum ≡ startOf lengths i
     pub small : sum ≤ mostLength * i
 
   pub first : Passed true 0 0
-  first = record { upto = omega arith; right = all-none _; reached-is = all-none _; sum-is = sym (start-zero lengths); small = omega arith }
+  first = record { upto = omega arith; right = all-none _; addresses-is = all-none _; sum-is = sym (start-zero lengths); small = omega arith }
 
-  pub next : {reached wrong : Bool} {sum i : ℕ} → Passed reached sum i → i < length lengths → lengthAt i ≡ true → wrong ≡ addressWrong (getD addresses i 0) (getD lengths i 0)
-      → Passed (not wrong && reached) (sum + getD lengths i 0) (i + 1)
-  next {reached} {wrong} {sum} {i} p l e f =
+  pub next : {addresses-ok wrong : Bool} {sum i : ℕ} → Passed addresses-ok sum i → i < length lengths → lengthAt i ≡ true → wrong ≡ addressWrong (getD addresses i 0) (getD lengths i 0)
+      → Passed (not wrong && addresses-ok) (sum + getD lengths i 0) (i + 1)
+  next {addresses-ok} {wrong} {sum} {i} p l e f =
       record {
         upto = omega arith;
         right = sym (and-both e refl) ∙ all-more lengthAt i (p .right);
-        reached-is = rw f (all-more addressAt i (p .reached-is));
+        addresses-is = rw f (all-more addressAt i (p .addresses-is));
         sum-is = start-step lengths sum i (p .sum-is);
         small = omega (arith, within-is 1 mostLength (getD lengths i 0) e);
       }

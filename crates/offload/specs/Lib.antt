@@ -1,4 +1,4 @@
 pub mod Request
 pub mod Offload
 pub mod Accepted
-pub mod Walk
+pub mod Steps

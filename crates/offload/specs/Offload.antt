@@ -1,15 +1,13 @@
 -- What a send must keep, and the numbers that it is refused with where it does not (01, "Sending"; 6, 2, 7 and 8 of "Numbers that come back").
 -- Assumes nothing.
-use Prim.Native.Nat.{ℕ, _+_, _^_, _<_}
-use mathlib.Core.Path.{_≡_}
-use mathlib.Core.Bool.{Bool, true, not, _&&_, _||_, cond}
+use Prim.Native.Nat.{ℕ, _+_}
+use mathlib.Core.Bool.{Bool, not, _&&_, _||_, cond}
 use mathlib.Core.List.{List, [], _∷_}
 use lib.Dec.{leb, eqb}
 use lib.ListN.{length, getD}
 use Rattle.rules.specs.Rules.{within, inSteps, allBelow, Check, _when_}
 use Rattle.rules.specs.Address.{addressWrong}
 use Rattle.segments.specs.Touch.{total, headerWithin, isCrowded}
-use Rattle.segments.specs.Steps.{Checked}
 use Rattle.offload.specs.declared.IpKind.{IpKind}
 use Rattle.offload.specs.declared.IpKind.the-variants.{None as NoIp, Ipv6, Ipv4, Ipv4Checksum}
 use Rattle.offload.specs.declared.L4Kind.{L4Kind}
@@ -126,14 +124,9 @@ requestOk lengths maximum q =
 abbrev pub isOver : List ℕ → Request → Bool
 isOver lengths q = q .segmented && isCrowded lengths (headerOf q) (q .mss) (q .tlen)
 
--- what the checks before have shown
-pub record Segmentable (lengths : List ℕ) (q : Request) : Type 0 where
-  pub header-fits : headerOf q < 2 ^ 64
-  pub checked : q .segmented ≡ true → Checked lengths (headerOf q) (q .mss) (q .tlen)
-
--- the checks of a send on its own, in their order
-abbrev pub sendChecks : List ℕ → List ℕ → ℕ → Request → List Check
-sendChecks addresses lengths maximum q =
+-- the checks of a packet to be sent on its own, in their order: its pieces, their addresses, its request, its segments
+abbrev pub packetChecks : List ℕ → List ℕ → ℕ → Request → List Check
+packetChecks addresses lengths maximum q =
     6 when not (piecesOk addresses lengths maximum q)
     ∷ 2 when not (addressesOk addresses lengths)
     ∷ 7 when not (requestOk lengths maximum q)

@@ -13,8 +13,8 @@ ghost use Rattle.segments.specs.Touch.{total};
 ghost use Rattle.segments.specs.Steps.{sumLimit};
 ghost use Rattle.descriptor.specs.Words.{dataWord, contextWord};
 ghost use Rattle.offload.specs.Request.{iiptOf, l4tOf, dataOf, contextOf};
-ghost use Rattle.offload.specs.Walk.{Walkable, Looked, Totalled};
-ghost use Rattle.offload.specs.Offload.{mostPiecesOf, lengthsOk, totalOk, piecesOk, ipLengthOk, l4LengthOk, headersOk, tagOk, mssOk, segmentedOk, segmentationOk, requestOk, Segmentable, isOver, sendChecks};
+ghost use Rattle.offload.specs.Steps.{Walkable, Looked, Totalled, Segmentable};
+ghost use Rattle.offload.specs.Offload.{mostPiecesOf, lengthsOk, totalOk, piecesOk, ipLengthOk, l4LengthOk, headersOk, tagOk, mssOk, segmentedOk, segmentationOk, requestOk, isOver, packetChecks};
 
 const MOST_LENGTH: u64 = 16383;
 
@@ -138,7 +138,7 @@ fn total_ok(total: u64, maximum: u64, request: Request) -> bool
 // What one walk over the pieces finds: no cause of 6; then whether there is none of 2, and the bytes of all pieces.
 struct Found {
     ok: bool,
-    reached: bool,
+    addresses_ok: bool,
     total: u64,
 }
 
@@ -147,19 +147,19 @@ fn walk(addresses: &[u64], lengths: &[u64]) -> Found
     requires { ⌜ Walkable (now addresses) (now lengths) ⌝ }
     ensures { λ r. ⌜ Looked (lengthsOk (now (lengths .entry))) (now (addresses .entry)) (now (lengths .entry)) r ⌝ }
 {
-    let mut reached = true;
+    let mut addresses_ok = true;
     let mut total = 0;
     let mut i = 0;
     while i < lengths.len() {
         let l = lengths[i];
         if (1 <= l) & (l <= MOST_LENGTH) {
             let wrong = address_wrong(addresses[i], l);
-            reached = !wrong & reached;
+            addresses_ok = !wrong & addresses_ok;
             total += l;
         } else {
             return Found {
                 ok: false,
-                reached: false,
+                addresses_ok: false,
                 total: 0,
             };
         }
@@ -167,7 +167,7 @@ fn walk(addresses: &[u64], lengths: &[u64]) -> Found
     }
     Found {
         ok: true,
-        reached,
+        addresses_ok,
         total,
     }
 }
@@ -183,7 +183,7 @@ fn pieces(addresses: &[u64], lengths: &[u64], maximum: u64, request: Request) ->
             let ok = total_ok(walked.total, maximum, request);
             Found {
                 ok,
-                reached: walked.reached,
+                addresses_ok: walked.addresses_ok,
                 total: walked.total,
             }
         } else {
@@ -192,7 +192,7 @@ fn pieces(addresses: &[u64], lengths: &[u64], maximum: u64, request: Request) ->
     } else {
         Found {
             ok: false,
-            reached: false,
+            addresses_ok: false,
             total: 0,
         }
     }
@@ -308,11 +308,11 @@ fn crowds(lengths: &[u64], request: Request) -> bool
 
 // Any lists and numbers go in.
 pub fn judge(addresses: &[u64], lengths: &[u64], maximum_frame: u64, request: Request) -> u8
-    ensures { λ r. ⌜ r ≡ answerOf (sendChecks (now (addresses .entry)) (now (lengths .entry)) «maximum_frame» request) ⌝ }
+    ensures { λ r. ⌜ r ≡ answerOf (packetChecks (now (addresses .entry)) (now (lengths .entry)) «maximum_frame» request) ⌝ }
 {
     let p = pieces(addresses, lengths, maximum_frame, request);
     if p.ok {
-        if p.reached {
+        if p.addresses_ok {
             if request_ok(lengths, p.total, maximum_frame, request) {
                 if crowds(lengths, request) { 8 } else { 0 }
             } else {

@@ -7,7 +7,7 @@ use borrow.Author.Needs.{needs}
 use lib.ListN.{length}
 use Rattle.ring.specs.Memory.{storeRun}
 use Rattle.ring.proofs.Rows.{row-none, row-length}
-use Rattle.fill.specs.Room.{leadingNumbers}
+use Rattle.fill.specs.Steps.{leadingNumbers}
 use Rattle.fill.proofs.Pieces.{put-next}
 use Rattle.fill.proofs.put_leading.Statement.{statement}
 use Rattle.fill.proofs.put_leading.Tie as tie

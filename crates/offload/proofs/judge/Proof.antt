@@ -16,8 +16,8 @@ entry c = c .before .before .before .before
 right : (c : tie.Then1) → piecesOk (entry c .args .addresses .now) (entry c .args .lengths .now) (entry c .args .maximum-frame) (entry c .args .request) ≡ true
 right c = sym (c .before .pieces .ensures .ok-is) ∙ c .if1 .taken
 
-reached : (c : tie.Then2) → addressesOk (entry (c .before) .args .addresses .now) (entry (c .before) .args .lengths .now) ≡ true
-reached c = sym (c .before .before .pieces .ensures .reached-is (c .before .if1 .taken)) ∙ c .if2 .taken
+addresses-ok : (c : tie.Then2) → addressesOk (entry (c .before) .args .addresses .now) (entry (c .before) .args .lengths .now) ≡ true
+addresses-ok c = sym (c .before .before .pieces .ensures .addresses-is (c .before .if1 .taken)) ∙ c .if2 .taken
 
 request : (c : tie.Then3)
     → requestOk (entry (c .before .before .before) .args .lengths .now) (entry (c .before .before .before) .args .maximum-frame) (entry (c .before .before .before) .args .request) ≡ true
@@ -37,22 +37,22 @@ crowds-requires c κs = segmentable _ _ _ (request c) _ (right (c .before .befor
 returns : tie.Need-returns
 returns c =
     let t = c .before .before in
-    rw (right (t .before .before .before), reached (t .before .before), request t, sym (c .before .crowds .ensures) ∙ c .if4 .taken)
+    rw (right (t .before .before .before), addresses-ok (t .before .before), request t, sym (c .before .crowds .ensures) ∙ c .if4 .taken)
 
 returns-2 : tie.Need-returns-2
 returns-2 c =
     let t = c .before .before in
-    rw (right (t .before .before .before), reached (t .before .before), request t, sym (c .before .crowds .ensures) ∙ c .if4 .left)
+    rw (right (t .before .before .before), addresses-ok (t .before .before), request t, sym (c .before .crowds .ensures) ∙ c .if4 .left)
 
 returns-3 : tie.Need-returns-3
 returns-3 c =
     let t = c .before .before in
-    rw (right (t .before), reached t, sym (c .before .request-ok .ensures) ∙ c .if3 .left)
+    rw (right (t .before), addresses-ok t, sym (c .before .request-ok .ensures) ∙ c .if3 .left)
 
 returns-4 : tie.Need-returns-4
 returns-4 c =
     let t = c .before in
-    rw (right t, sym (t .before .pieces .ensures .reached-is (t .if1 .taken)) ∙ c .if2 .left)
+    rw (right t, sym (t .before .pieces .ensures .addresses-is (t .if1 .taken)) ∙ c .if2 .left)
 
 returns-5 : tie.Need-returns-5
 returns-5 c = rw (sym (c .before .pieces .ensures .ok-is) ∙ c .if1 .left)

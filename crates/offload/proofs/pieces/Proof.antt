@@ -47,7 +47,7 @@ returns c =
     let t = c .before .if2 .taken in
     record {
       ok-is = simp (few-here (c .before .before .before), right-here (c .before), ← w .total-is t) (c .total-ok .ensures);
-      reached-is = λ _. w .reached-is t;
+      addresses-is = λ _. w .addresses-is t;
       total-is = λ _. w .total-is t;
     }
 
@@ -57,7 +57,7 @@ returns-2 c =
     let l = c .if2 .left in
     record {
       ok-is = l ∙ sym (simp (few-here (c .before .before), sym (c .before .walk .ensures .ok-is) ∙ l));
-      reached-is = λ e. absurd (false≢true (sym l ∙ e));
+      addresses-is = λ e. absurd (false≢true (sym l ∙ e));
       total-is = λ e. absurd (false≢true (sym l ∙ e));
     }
 
@@ -66,7 +66,7 @@ unfolding piecesOk
 returns-3 c =
     record {
       ok-is = simp (sym (c .before .most-pieces .ensures), c .if1 .left);
-      reached-is = λ e. absurd (false≢true e);
+      addresses-is = λ e. absurd (false≢true e);
       total-is = λ e. absurd (false≢true e);
     }
 

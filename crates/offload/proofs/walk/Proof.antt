@@ -13,10 +13,10 @@ use Rattle.offload.proofs.walk.Statement.{statement}
 use Rattle.offload.proofs.walk.Tie as tie
 
 abbrev Inv-loop : tie.InvT-loop
-Inv-loop addresses lengths reached₀ total₀ i₀ reached total i = Passed addresses lengths reached total i
+Inv-loop addresses lengths addresses-ok₀ total₀ i₀ addresses-ok total i = Passed addresses lengths addresses-ok total i
 
 abbrev μ-loop : tie.MeasureT-loop
-μ-loop addresses lengths reached₀ total₀ i₀ reached total i = length lengths - i
+μ-loop addresses lengths addresses-ok₀ total₀ i₀ addresses-ok total i = length lengths - i
 
 loop-holds : tie.Need-loop-holds Inv-loop μ-loop
 loop-holds c = first _ _
@@ -47,7 +47,7 @@ returns c =
     let s = c .before .before .before .before .before .before in
     record {
       ok-is = stopped (s .args .addresses .now) (s .args .lengths .now) (c .before .before .before .loop .i) (omega arith) (c .if1 .left);
-      reached-is = λ e. absurd (false≢true e);
+      addresses-is = λ e. absurd (false≢true e);
       total-is = λ e. absurd (false≢true e);
     }
 
@@ -65,7 +65,7 @@ unfolding addressesOk
 returns-2 c =
     let p = c .before .loop .inv in
     let e : c .before .loop .i ≡ length (c .before .before .before .before .args .lengths .now) = omega arith in
-    record { ok-is = rw e at (p .right); reached-is = λ _. rw e at (p .reached-is); total-is = λ _. rw e at (p .sum-is) }
+    record { ok-is = rw e at (p .right); addresses-is = λ _. rw e at (p .addresses-is); total-is = λ _. rw e at (p .sum-is) }
 
 pub walk-spec : {M : Type 1} → statement M
 walk-spec =

@@ -1,4 +1,4 @@
--- What the descriptors of a send need to be stored: facts that an accepted send has shown.
+-- What the contracts of the functions inside a send ask, facts that an accepted send has shown, and say. No public contract cites these.
 -- Assumes nothing.
 use Prim.Native.Nat.{ℕ, _*_, _^_, _≤_, _<_}
 use mathlib.Core.Path.{_≡_}
