@@ -306,7 +306,7 @@ fn crowds(lengths: &[u64], request: Request) -> bool
 
 // ---- 6, 2, 7 and 8 in that order
 
-// Any lists and numbers go in.
+// Answers 6, 2, 7 or 8, the first whose cause holds, or 0. Any lists and numbers go in.
 pub fn judge(addresses: &[u64], lengths: &[u64], maximum_frame: u64, request: Request) -> u8
     ensures { λ r. ⌜ r ≡ answerOf (packetChecks (now (addresses .entry)) (now (lengths .entry)) «maximum_frame» request) ⌝ }
 {

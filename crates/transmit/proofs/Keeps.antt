@@ -21,7 +21,6 @@ use Rattle.ring.proofs.Lines.{size-least}
 use Rattle.ring.proofs.Steps.{slot-below, apart}
 use Rattle.ring.proofs.Rows.{row-length, row-other}
 use Rattle.offload.specs.declared.Request.{Request}
-use Rattle.offload.specs.Request.{slotsOf}
 use Rattle.offload.proofs.Accepted.{slots-are}
 use Rattle.fill.specs.Descriptors.{descriptor}
 use Rattle.fill.proofs.Places.{two-words}
@@ -30,8 +29,8 @@ use Rattle.transmit.specs.declared.Fresh.{Fresh}
 use Rattle.transmit.specs.declared.Sent.{Sent}
 use Rattle.transmit.specs.declared.Reclaimed.{Reclaimed}
 use Rattle.transmit.specs.Queue.{leastFrame, mostFrame, numbersOk, recordOk, lentOk, slotOf, tailOf, movedTo, emptyQueue, freshOf}
-use Rattle.transmit.specs.Send.{answerTo, sendOf, ringAfter, tokensAfter, countsAfter}
-use Rattle.transmit.specs.Reclaim.{countAt, tokenAt, reclaimAnswer, reclaimOf}
+use Rattle.transmit.specs.Send.{slotsTaken, answerTo, sendOf, ringAfter, tokensAfter, countsAfter, Unchanged, Stays}
+use Rattle.transmit.specs.Reclaim.{doneOf, countAt, tokenAt, reclaimAnswer, reclaimOf}
 use Rattle.transmit.proofs.Laws.{kept, lent-record, lent-same, sendable}
 
 -- ---- accepted again
@@ -64,17 +63,17 @@ module _ (q : TxQueue) (ok : recordOk q ≡ true) where
   moved head posted h p =
       accepted (movedTo q head posted) (both (numbersOk (q .queue) (q .size) (q .frame)) (placeOk (q .size) (q .head) (q .posted)) ok .0) h p
 
-  pub send-keeps : (ring tokens counts addresses lengths : List ℕ) (token : ℕ) (request : Request)
-      → recordOk (sendOf q ring tokens counts addresses lengths token request .queue) ≡ true
-  send-keeps ring tokens counts addresses lengths token request = go (eqb answer 0) refl
+  pub send-keeps : (ring tokens counts addresses lengths : List ℕ) (request : Request)
+      → recordOk (sendOf q ring tokens counts addresses lengths request .queue) ≡ true
+  send-keeps ring tokens counts addresses lengths request = go (eqb answer 0) refl
     where
       answer : ℕ
-      answer = answerTo q ring tokens counts addresses lengths token request
+      answer = answerTo q ring tokens counts addresses lengths request
 
-      go : (b : Bool) → eqb answer 0 ≡ b → recordOk (given q answer (slotsOf request (length lengths)) b .queue) ≡ true
+      go : (b : Bool) → eqb answer 0 ≡ b → recordOk (given q answer (slotsTaken request lengths) b .queue) ≡ true
       go true e =
           let s = sendable q (length ring) (length tokens) (length counts) addresses lengths request (eqb-true answer 0 e) in
-          moved (q .head) (q .posted + slotsOf request (length lengths)) (kept q ok .place .head-below) (omega (arith, s .room, kept q ok .place))
+          moved (q .head) (q .posted + slotsTaken request lengths) (kept q ok .place .head-below) (omega (arith, s .room, kept q ok .place))
       go false e = ok
 
   pub reclaim-keeps : (ring tokens counts : List ℕ) → recordOk (reclaimOf q ring tokens counts .queue) ≡ true
@@ -85,10 +84,10 @@ module _ (q : TxQueue) (ok : recordOk q ≡ true) where
       answer = reclaimAnswer q ring tokens counts
 
       count : ℕ
-      count = countAt q ring tokens counts
+      count = countAt q counts
 
       given : Bool → Reclaimed
-      given b = cond b (record { answer = 0; queue = movedTo q (slotOf q count) (q .posted - count); token = tokenAt q ring tokens counts; count = count }) (record { answer = answer; queue = q; token = 0; count = 0 })
+      given b = cond b (doneOf q (tokenAt q tokens) count) (record { answer = answer; queue = q; token = 0; count = 0 })
 
       go : (b : Bool) → eqb answer 0 ≡ b → recordOk (given b .queue) ≡ true
       go true e = moved (slotOf q count) (q .posted - count) (slot-below (q .head) (q .size) count (omega (arith, kept q ok .place))) (omega (arith, kept q ok .place))
@@ -105,74 +104,62 @@ pub reclaim-refused : (q : TxQueue) (ring tokens counts : List ℕ) → reclaimA
 unfolding reclaimOf
 reclaim-refused q ring tokens counts ne = rw (ne-eqb (reclaimAnswer q ring tokens counts) 0 ne)
 
-module _ (q : TxQueue) (ring tokens counts addresses lengths : List ℕ) (token : ℕ) (request : Request) where
-  pub record Unchanged : Type 0 where
-    pub result-is : sendOf q ring tokens counts addresses lengths token request ≡ record { answer = answerTo q ring tokens counts addresses lengths token request; queue = q; slots = 0 }
-    pub ring-same : ringAfter q ring tokens counts addresses lengths token request ≡ ring
-    pub tokens-same : tokensAfter q ring tokens counts addresses lengths token request ≡ tokens
-    pub counts-same : countsAfter q ring tokens counts addresses lengths token request ≡ counts
-
-  pub send-refused : answerTo q ring tokens counts addresses lengths token request ≢ 0 → Unchanged
-  send-refused ne =
-      let e = ne-eqb (answerTo q ring tokens counts addresses lengths token request) 0 ne in
+module _ (q : TxQueue) (ring tokens counts addresses lengths : List ℕ) (request : Request) where
+  pub send-refused : answerTo q ring tokens counts addresses lengths request ≢ 0 → (token : ℕ) → Unchanged q ring tokens counts addresses lengths request token
+  send-refused ne token =
+      let e = ne-eqb (answerTo q ring tokens counts addresses lengths request) 0 ne in
       record { result-is = rw e; ring-same = rw e; tokens-same = rw e; counts-same = rw e }
 
   -- ---- the slots that a send does not take
 
-  -- the slot at distance k from head reads as it did, and so do its token and its count
-  pub record Stays (k : ℕ) : Type 0 where
-    pub words-same : numbersAt 2 (ringAfter q ring tokens counts addresses lengths token request) (slotOf q k) ≡ numbersAt 2 ring (slotOf q k)
-    pub token-same : getD (tokensAfter q ring tokens counts addresses lengths token request) (slotOf q k) 0 ≡ getD tokens (slotOf q k) 0
-    pub count-same : getD (countsAfter q ring tokens counts addresses lengths token request) (slotOf q k) 0 ≡ getD counts (slotOf q k) 0
-
-  pub others-stay : (k : ℕ) → k < q .size → (k < q .posted) ⊎ (q .posted + slotsOf request (length lengths) ≤ k) → Stays k
-  others-stay k l out = go (eqb answer 0) refl
+  pub others-stay : (token k : ℕ) → k < q .size → (k < q .posted) ⊎ (q .posted + slotsTaken request lengths ≤ k) → Stays q ring tokens counts addresses lengths request token k
+  others-stay token k l out = go (eqb answer 0) refl
     where
       answer : ℕ
-      answer = answerTo q ring tokens counts addresses lengths token request
+      answer = answerTo q ring tokens counts addresses lengths request
 
-      go : (b : Bool) → eqb answer 0 ≡ b → Stays k
+      go : (b : Bool) → eqb answer 0 ≡ b → Stays q ring tokens counts addresses lengths request token k
       go true e =
           let s = sendable q (length ring) (length tokens) (length counts) addresses lengths request (eqb-true answer 0 e) in
-          let free : (j : ℕ) → j < slotsOf request (length lengths) → slotOf q k ≢ slotAt (tailOf q) (q .size) j = λ j h e.
+          let free : (j : ℕ) → j < slotsTaken request lengths → slotOf q k ≢ slotAt (tailOf q) (q .size) j = λ j h e.
           apart (q .head) (q .size) k (q .posted + j) l (omega (arith, s .room, s .lent-is .is .place)) (λ d. ⊎-elim (λ a. omega arith) (λ a. omega arith) out)
           (e ∙ mod-add-mod (q .head + q .posted) (q .size) j ∙ ap (λ (m : ℕ). m % q .size) (omega arith)) in
           let tail : slotOf q k ≢ tailOf q = apart (q .head) (q .size) k (q .posted) l (omega (arith, s .lent-is .is .place)) (λ d. ⊎-elim (λ a. omega arith) (λ a. omega (arith, s .own .some, slots-are request (length lengths))) out) in
           record {
-            words-same = rw e (row-other 2 (q .size) (descriptor request addresses lengths) ring (tailOf q) (two-words request addresses lengths) (slotsOf request (length lengths)) (slotOf q k) free);
+            words-same = rw e (row-other 2 (q .size) (descriptor request addresses lengths) ring (tailOf q) (two-words request addresses lengths) (slotsTaken request lengths) (slotOf q k) free);
             token-same = rw e (getD-set-other tokens (tailOf q) (slotOf q k) token 0 tail);
-            count-same = rw e (getD-set-other counts (tailOf q) (slotOf q k) (slotsOf request (length lengths)) 0 tail);
+            count-same = rw e (getD-set-other counts (tailOf q) (slotOf q k) (slotsTaken request lengths) 0 tail);
           }
       go false e = record { words-same = rw e; token-same = rw e; count-same = rw e }
 
   -- the device's slots are those at distances below posted
-  pub devices-stay : recordOk q ≡ true → (k : ℕ) → k < q .posted → Stays k
-  devices-stay ok k l = others-stay k (omega (arith, kept q ok .place)) (inl l)
+  pub devices-stay : recordOk q ≡ true → (token k : ℕ) → k < q .posted → Stays q ring tokens counts addresses lengths request token k
+  devices-stay ok token k l = others-stay token k (omega (arith, kept q ok .place)) (inl l)
 
   -- ---- the lent slices
 
   abbrev accepts : Bool
-  accepts = eqb (answerTo q ring tokens counts addresses lengths token request) 0
+  accepts = eqb (answerTo q ring tokens counts addresses lengths request) 0
 
   -- a send leaves the slices of the lengths that they had
-  pub ring-long : length (ringAfter q ring tokens counts addresses lengths token request) ≡ length ring
-  ring-long = either-long accepts (storeRun 2 (q .size) (descriptor request addresses lengths) ring (tailOf q) (slotsOf request (length lengths))) ring (row-length 2 (q .size) (descriptor request addresses lengths) ring (tailOf q) (slotsOf request (length lengths)))
+  pub ring-long : length (ringAfter q ring tokens counts addresses lengths request) ≡ length ring
+  ring-long = either-long accepts (storeRun 2 (q .size) (descriptor request addresses lengths) ring (tailOf q) (slotsTaken request lengths)) ring (row-length 2 (q .size) (descriptor request addresses lengths) ring (tailOf q) (slotsTaken request lengths))
 
-  pub tokens-long : length (tokensAfter q ring tokens counts addresses lengths token request) ≡ length tokens
-  tokens-long = either-long accepts (set tokens (tailOf q) token) tokens (length-set tokens (tailOf q) token)
+  pub tokens-long : (token : ℕ) → length (tokensAfter q ring tokens counts addresses lengths request token) ≡ length tokens
+  tokens-long token = either-long accepts (set tokens (tailOf q) token) tokens (length-set tokens (tailOf q) token)
 
-  pub counts-long : length (countsAfter q ring tokens counts addresses lengths token request) ≡ length counts
-  counts-long = either-long accepts (set counts (tailOf q) (slotsOf request (length lengths))) counts (length-set counts (tailOf q) (slotsOf request (length lengths)))
+  pub counts-long : length (countsAfter q ring tokens counts addresses lengths request) ≡ length counts
+  counts-long = either-long accepts (set counts (tailOf q) (slotsTaken request lengths)) counts (length-set counts (tailOf q) (slotsTaken request lengths))
 
   -- so they are right for the record that it gives back
-  pub send-lends : lentOk q (length ring) (length tokens) (length counts) ≡ true
-      → lentOk (sendOf q ring tokens counts addresses lengths token request .queue) (length (ringAfter q ring tokens counts addresses lengths token request)) (length (tokensAfter q ring tokens counts addresses lengths token request)) (length (countsAfter q ring tokens counts addresses lengths token request)) ≡ true
-  send-lends l =
-      rw (ring-long, tokens-long, counts-long)
-      (lent-same q (length ring) (length tokens) (length counts) l (sendOf q ring tokens counts addresses lengths token request .queue)
-      (send-keeps q (lent-record q (length ring) (length tokens) (length counts) l) ring tokens counts addresses lengths token request)
+  pub send-lends : lentOk q (length ring) (length tokens) (length counts) ≡ true → (token : ℕ)
+      → lentOk (sendOf q ring tokens counts addresses lengths request .queue) (length (ringAfter q ring tokens counts addresses lengths request)) (length (tokensAfter q ring tokens counts addresses lengths request token)) (length (countsAfter q ring tokens counts addresses lengths request)) ≡ true
+  send-lends l token =
+      rw (ring-long, tokens-long token, counts-long)
+      (lent-same q (length ring) (length tokens) (length counts) l (sendOf q ring tokens counts addresses lengths request .queue)
+      (send-keeps q (lent-record q (length ring) (length tokens) (length counts) l) ring tokens counts addresses lengths request)
       (size-same accepts))
     where
-      size-same : (b : Bool) → given q (answerTo q ring tokens counts addresses lengths token request) (slotsOf request (length lengths)) b .queue .size ≡ q .size
+      size-same : (b : Bool) → given q (answerTo q ring tokens counts addresses lengths request) (slotsTaken request lengths) b .queue .size ≡ q .size
       size-same true = refl
       size-same false = refl

@@ -15,13 +15,14 @@ use Rattle.ring.specs.Sizes.{queueOk, placeOk}
 use Rattle.ring.proofs.Lines.{placed}
 use Rattle.offload.specs.declared.Request.{Request}
 use Rattle.offload.specs.Request.{slotsOf}
-use Rattle.offload.specs.Offload.{sendChecks}
+use Rattle.offload.specs.Offload.{packetChecks}
 use Rattle.offload.specs.Accepted.{Accepted}
 use Rattle.offload.proofs.Accepted.{accepted}
 use Rattle.offload.proofs.Causes.{asked-next}
 use Rattle.transmit.specs.declared.TxQueue.{TxQueue}
-use Rattle.transmit.specs.Queue.{leastFrame, mostFrame, numbersOk, recordOk, lentOk, Kept, Lent}
-use Rattle.transmit.specs.Send.{freeSlots, checks, sendAnswer}
+use Rattle.transmit.specs.Queue.{leastFrame, mostFrame, numbersOk, recordOk, lentOk}
+use Rattle.transmit.specs.Steps.{Kept, Lent}
+use Rattle.transmit.specs.Send.{freeSlots, slotsTaken, sendChecks, sendAnswer}
 use Rattle.transmit.specs.Reclaim.{countAt, reclaimChecks, reclaimAnswer}
 
 pub kept : (q : TxQueue) → recordOk q ≡ true → Kept q
@@ -36,22 +37,22 @@ kept q e =
       frame-high = f .1;
     }
 
-module _ (q : TxQueue) (ring tokens counts : ℕ) (e : lentOk q ring tokens counts ≡ true) where
-  apart : (recordOk q ≡ true) × (eqb ring (2 * q .size) && (eqb tokens (q .size) && eqb counts (q .size)) ≡ true)
+module _ (q : TxQueue) (ringLength tokensLength countsLength : ℕ) (e : lentOk q ringLength tokensLength countsLength ≡ true) where
+  apart : (recordOk q ≡ true) × (eqb ringLength (2 * q .size) && (eqb tokensLength (q .size) && eqb countsLength (q .size)) ≡ true)
   unfolding lentOk
-  apart = both (recordOk q) (eqb ring (2 * q .size) && (eqb tokens (q .size) && eqb counts (q .size))) e
+  apart = both (recordOk q) (eqb ringLength (2 * q .size) && (eqb tokensLength (q .size) && eqb countsLength (q .size))) e
 
   pub lent-record : recordOk q ≡ true
   lent-record = apart .0
 
-  pub lent : Lent q ring tokens counts
+  pub lent : Lent q ringLength tokensLength countsLength
   lent =
-      let r = both (eqb ring (2 * q .size)) (eqb tokens (q .size) && eqb counts (q .size)) (apart .1) in
-      let l = both (eqb tokens (q .size)) (eqb counts (q .size)) (r .1) in
+      let r = both (eqb ringLength (2 * q .size)) (eqb tokensLength (q .size) && eqb countsLength (q .size)) (apart .1) in
+      let l = both (eqb tokensLength (q .size)) (eqb countsLength (q .size)) (r .1) in
       record { is = kept q (apart .0); ring-long = eqb-true _ _ (r .0); tokens-long = eqb-true _ _ (l .0); counts-long = eqb-true _ _ (l .1) }
 
   -- slices of a size's lengths are right for every accepted record of that size
-  pub lent-same : (q′ : TxQueue) → recordOk q′ ≡ true → q′ .size ≡ q .size → lentOk q′ ring tokens counts ≡ true
+  pub lent-same : (q′ : TxQueue) → recordOk q′ ≡ true → q′ .size ≡ q .size → lentOk q′ ringLength tokensLength countsLength ≡ true
   unfolding lentOk
   lent-same q′ ok s = rw (ok, s) (apart .1)
 
@@ -65,20 +66,20 @@ first-pass cs ds t e = go (eqb (answerOf cs) 0) refl (sym (asked-next cs ds t) �
     go true h f = eqb-true _ _ h
     go false h f = f
 
-module _ (q : TxQueue) (ring tokens counts : ℕ) (addresses lengths : List ℕ) (request : Request) where
+module _ (q : TxQueue) (ringLength tokensLength countsLength : ℕ) (addresses lengths : List ℕ) (request : Request) where
   pub record Sendable : Type 0 where
-    pub lent-ok : lentOk q ring tokens counts ≡ true
-    pub lent-is : Lent q ring tokens counts
+    pub lent-ok : lentOk q ringLength tokensLength countsLength ≡ true
+    pub lent-is : Lent q ringLength tokensLength countsLength
     pub own : Accepted addresses lengths (q .frame) request
-    pub room : slotsOf request (length lengths) ≤ freeSlots q
+    pub room : slotsTaken request lengths ≤ freeSlots q
 
-  pub sendable : sendAnswer q ring tokens counts addresses lengths request ≡ 0 → Sendable
+  pub sendable : sendAnswer q ringLength tokensLength countsLength addresses lengths request ≡ 0 → Sendable
   unfolding sendAnswer
   sendable e =
-      let p = passed (checks q ring tokens counts addresses lengths request) tt e in
-      let l : lentOk q ring tokens counts ≡ true = not-false _ (p 0) in
-      let own : answerOf (sendChecks addresses lengths (q .frame) request) ≡ 0 = first-pass (sendChecks addresses lengths (q .frame) request) (3 when ltb (freeSlots q) (slotsOf request (length lengths)) ∷ []) tt (rw l at e) in
-      record { lent-ok = l; lent-is = lent q ring tokens counts l; own = accepted addresses lengths (q .frame) request own; room = ltb-false (freeSlots q) (slotsOf request (length lengths)) (p 5) }
+      let p = passed (sendChecks q ringLength tokensLength countsLength addresses lengths request) tt e in
+      let l : lentOk q ringLength tokensLength countsLength ≡ true = not-false _ (p 0) in
+      let own : answerOf (packetChecks addresses lengths (q .frame) request) ≡ 0 = first-pass (packetChecks addresses lengths (q .frame) request) (3 when ltb (freeSlots q) (slotsTaken request lengths) ∷ []) tt (rw l at e) in
+      record { lent-ok = l; lent-is = lent q ringLength tokensLength countsLength l; own = accepted addresses lengths (q .frame) request own; room = ltb-false (freeSlots q) (slotsTaken request lengths) (p 5) }
 
 -- ---- reclaim
 
@@ -86,23 +87,24 @@ pub neither : (a b : Bool) → a || b ≡ false → (a ≡ false) × (b ≡ fals
 neither true b e = absurd (true≢false e)
 neither false b e = (refl, e)
 
+-- a count that a packet of the posted slots can have
+pub record Counted (q : TxQueue) (counts : List ℕ) : Type 0 where
+  pub some : 1 ≤ countAt q counts
+  pub most : countAt q counts ≤ q .posted
+
+pub counted : (q : TxQueue) (counts : List ℕ) → eqb (countAt q counts) 0 || ltb (q .posted) (countAt q counts) ≡ false → Counted q counts
+counted q counts e =
+    let n = neither (eqb (countAt q counts) 0) (ltb (q .posted) (countAt q counts)) e in
+    record { some = omega (arith, eqb-false (countAt q counts) 0 (n .0)); most = ltb-false _ _ (n .1) }
+
 module _ (q : TxQueue) (ring tokens counts : List ℕ) where
-  -- a count that a packet of the posted slots can have
-  pub record Counted : Type 0 where
-    pub some : 1 ≤ countAt q ring tokens counts
-    pub most : countAt q ring tokens counts ≤ q .posted
-
-  pub counted : eqb (countAt q ring tokens counts) 0 || ltb (q .posted) (countAt q ring tokens counts) ≡ false → Counted
-  counted e =
-      let n = neither (eqb (countAt q ring tokens counts) 0) (ltb (q .posted) (countAt q ring tokens counts)) e in
-      record { some = omega (arith, eqb-false (countAt q ring tokens counts) 0 (n .0)); most = ltb-false _ _ (n .1) }
-
   pub record Reclaimable : Type 0 where
+    pub lent-ok : lentOk q (length ring) (length tokens) (length counts) ≡ true
     pub lent-is : Lent q (length ring) (length tokens) (length counts)
-    pub count-is : Counted
+    pub count-is : Counted q counts
 
   pub reclaimable : reclaimAnswer q ring tokens counts ≡ 0 → Reclaimable
   unfolding reclaimAnswer
   reclaimable e =
       let p = passed (reclaimChecks q ring tokens counts) tt e in
-      record { lent-is = lent q _ _ _ (not-false _ (p 0)); count-is = counted (p 2) }
+      record { lent-ok = not-false _ (p 0); lent-is = lent q _ _ _ (not-false _ (p 0)); count-is = counted q counts (p 2) }

@@ -4,3 +4,4 @@ pub mod Causes
 pub mod Keeps
 pub mod Packets
 pub mod Outcomes
+pub mod Reused

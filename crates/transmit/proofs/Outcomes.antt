@@ -11,7 +11,7 @@ use Rattle.transmit.specs.declared.Asked.{Asked}
 use Rattle.transmit.specs.declared.Sent.{Sent}
 use Rattle.transmit.specs.declared.Reclaimed.{Reclaimed}
 use Rattle.transmit.specs.Queue.{freshOf, tailValueOf, tailRegisterOf}
-use Rattle.transmit.specs.Send.{sendOf, ringAfter, tokensAfter, countsAfter, SentAs}
+use Rattle.transmit.specs.Send.{sendOf, ringAfter, tokensAfter, countsAfter, Outcome, Meets}
 use Rattle.transmit.specs.Reclaim.{reclaimOf}
 
 pub fresh-alike : (queue size frame : ℕ) (a b : Fresh) → a ≡ freshOf queue size frame → b ≡ freshOf queue size frame → a ≡ b
@@ -26,28 +26,18 @@ tail-register-alike q = alike (equation (tailRegisterOf q))
 pub reclaim-alike : (q : TxQueue) (ring tokens counts : List ℕ) (a b : Reclaimed) → a ≡ reclaimOf q ring tokens counts → b ≡ reclaimOf q ring tokens counts → a ≡ b
 reclaim-alike q ring tokens counts = alike (equation (reclaimOf q ring tokens counts))
 
--- what a send returns and leaves
-pub record Outcome : Type 0 where
-  pub result : Sent
-  pub ring : List ℕ
-  pub tokens : List ℕ
-  pub counts : List ℕ
-
-module _ (q : TxQueue) (ring tokens counts addresses lengths : List ℕ) (token : ℕ) (request : Request) where
-  abbrev Meets : Outcome → Type 0
-  Meets o = SentAs q ring tokens counts addresses lengths token request (o .result) (o .ring) (o .tokens) (o .counts)
-
+module _ (q : TxQueue) (ring tokens counts addresses lengths : List ℕ) (request : Request) (token : ℕ) where
   abbrev meant : Outcome
   meant =
       record {
-        result = sendOf q ring tokens counts addresses lengths token request;
-        ring = ringAfter q ring tokens counts addresses lengths token request;
-        tokens = tokensAfter q ring tokens counts addresses lengths token request;
-        counts = countsAfter q ring tokens counts addresses lengths token request;
+        result = sendOf q ring tokens counts addresses lengths request;
+        ring = ringAfter q ring tokens counts addresses lengths request;
+        tokens = tokensAfter q ring tokens counts addresses lengths request token;
+        counts = countsAfter q ring tokens counts addresses lengths request;
       }
 
-  send-fixes : Fixes Meets meant
+  send-fixes : Fixes (Meets q ring tokens counts addresses lengths request token) meant
   send-fixes o p = rw (← p .result-is, ← p .ring-is, ← p .tokens-is, ← p .counts-is)
 
-  pub send-alike : (a b : Outcome) → Meets a → Meets b → a ≡ b
+  pub send-alike : (a b : Outcome) → Meets q ring tokens counts addresses lengths request token a → Meets q ring tokens counts addresses lengths request token b → a ≡ b
   send-alike = alike send-fixes

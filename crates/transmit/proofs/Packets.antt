@@ -14,20 +14,19 @@ use Rattle.rules.specs.Rules.{nth}
 use Rattle.rules.proofs.Checks.{passes}
 use Rattle.ring.proofs.Steps.{slot-below}
 use Rattle.offload.specs.declared.Request.{Request}
-use Rattle.offload.specs.Request.{slotsOf}
 use Rattle.offload.proofs.Accepted.{slots-are}
 use Rattle.transmit.specs.declared.TxQueue.{TxQueue}
 use Rattle.transmit.specs.Queue.{lentOk, slotOf, tailOf, movedTo}
-use Rattle.transmit.specs.Send.{answerTo, sendOf, tokensAfter, countsAfter}
-use Rattle.transmit.specs.Reclaim.{isMarked, countAt, tokenAt, reclaimChecks, reclaimAnswer, reclaimOf}
+use Rattle.transmit.specs.Send.{slotsTaken, answerTo, sendOf, tokensAfter, countsAfter}
+use Rattle.transmit.specs.Reclaim.{isMarked, doneOf, countAt, tokenAt, reclaimChecks, reclaimAnswer, reclaimOf}
 use Rattle.transmit.proofs.Laws.{Sendable, sendable}
 use Rattle.transmit.proofs.Keeps.{ring-long, send-lends}
 
 -- a marked packet at head, its count right, is reclaimed
 module _ (q : TxQueue) (ring tokens counts : List ℕ) where
-  pub reclaims : (count token : ℕ) → countAt q ring tokens counts ≡ count → tokenAt q ring tokens counts ≡ token
+  pub reclaims : (count token : ℕ) → countAt q counts ≡ count → tokenAt q tokens ≡ token
       → lentOk q (length ring) (length tokens) (length counts) ≡ true → 1 ≤ count → count ≤ q .posted → isMarked ring (slotOf q (count - 1)) ≡ true
-      → reclaimOf q ring tokens counts ≡ record { answer = 0; queue = movedTo q (slotOf q count) (q .posted - count); token = token; count = count }
+      → reclaimOf q ring tokens counts ≡ doneOf q token count
   unfolding reclaimOf reclaimAnswer
   reclaims count token c t l some most m =
       rw (eq-eqb (reclaimAnswer q ring tokens counts) 0 (passes (reclaimChecks q ring tokens counts) all-pass), c, t)
@@ -39,51 +38,48 @@ module _ (q : TxQueue) (ring tokens counts : List ℕ) where
       all-pass (suc (suc (suc zero))) = rw (c, m)
       all-pass (suc (suc (suc (suc i)))) = refl
 
-module _ (q : TxQueue) (ring tokens counts addresses lengths : List ℕ) (token : ℕ) (request : Request)
-    (done : answerTo q ring tokens counts addresses lengths token request ≡ 0) where
+module _ (q : TxQueue) (ring tokens counts addresses lengths : List ℕ) (request : Request)
+    (done : answerTo q ring tokens counts addresses lengths request ≡ 0) where
   facts : Sendable q (length ring) (length tokens) (length counts) addresses lengths request
   facts = sendable q (length ring) (length tokens) (length counts) addresses lengths request done
-
-  abbrev slots : ℕ
-  slots = slotsOf request (length lengths)
 
   tail-below : tailOf q < q .size
   tail-below = slot-below (q .head) (q .size) (q .posted) (omega (arith, facts .lent-is .is .place))
 
   -- an accepted send stores its token and its slot count at the packet's first slot, the old tail
-  pub token-stored : getD (tokensAfter q ring tokens counts addresses lengths token request) (tailOf q) 0 ≡ token
-  token-stored =
-      rw (eq-eqb (answerTo q ring tokens counts addresses lengths token request) 0 done)
+  pub token-stored : (token : ℕ) → getD (tokensAfter q ring tokens counts addresses lengths request token) (tailOf q) 0 ≡ token
+  token-stored token =
+      rw (eq-eqb (answerTo q ring tokens counts addresses lengths request) 0 done)
       (getD-set-same tokens (tailOf q) token 0 (omega (arith, tail-below, facts .lent-is .tokens-long)))
 
-  pub count-stored : getD (countsAfter q ring tokens counts addresses lengths token request) (tailOf q) 0 ≡ slots
+  pub count-stored : getD (countsAfter q ring tokens counts addresses lengths request) (tailOf q) 0 ≡ slotsTaken request lengths
   count-stored =
-      rw (eq-eqb (answerTo q ring tokens counts addresses lengths token request) 0 done)
-      (getD-set-same counts (tailOf q) slots 0 (omega (arith, tail-below, facts .lent-is .counts-long)))
+      rw (eq-eqb (answerTo q ring tokens counts addresses lengths request) 0 done)
+      (getD-set-same counts (tailOf q) (slotsTaken request lengths) 0 (omega (arith, tail-below, facts .lent-is .counts-long)))
 
   -- a later record whose head is the packet's first slot, and lent lists that still have what the send stored there
-  pub sent-reclaimed : (q′ : TxQueue) (ring′ tokens′ counts′ : List ℕ) → lentOk q′ (length ring′) (length tokens′) (length counts′) ≡ true
-      → q′ .head ≡ tailOf q → slots ≤ q′ .posted
-      → getD tokens′ (tailOf q) 0 ≡ getD (tokensAfter q ring tokens counts addresses lengths token request) (tailOf q) 0
-      → getD counts′ (tailOf q) 0 ≡ getD (countsAfter q ring tokens counts addresses lengths token request) (tailOf q) 0
-      → isMarked ring′ (slotOf q′ (slots - 1)) ≡ true
-      → reclaimOf q′ ring′ tokens′ counts′ ≡ record { answer = 0; queue = movedTo q′ (slotOf q′ slots) (q′ .posted - slots); token = token; count = slots }
-  sent-reclaimed q′ ring′ tokens′ counts′ l h p t c m =
-      reclaims q′ ring′ tokens′ counts′ slots token
+  pub sent-reclaimed : (token : ℕ) (q′ : TxQueue) (ring′ tokens′ counts′ : List ℕ) → lentOk q′ (length ring′) (length tokens′) (length counts′) ≡ true
+      → q′ .head ≡ tailOf q → slotsTaken request lengths ≤ q′ .posted
+      → getD tokens′ (tailOf q) 0 ≡ getD (tokensAfter q ring tokens counts addresses lengths request token) (tailOf q) 0
+      → getD counts′ (tailOf q) 0 ≡ getD (countsAfter q ring tokens counts addresses lengths request) (tailOf q) 0
+      → isMarked ring′ (slotOf q′ (slotsTaken request lengths - 1)) ≡ true
+      → reclaimOf q′ ring′ tokens′ counts′ ≡ doneOf q′ token (slotsTaken request lengths)
+  sent-reclaimed token q′ ring′ tokens′ counts′ l h p t c m =
+      reclaims q′ ring′ tokens′ counts′ (slotsTaken request lengths) token
       (ap (λ (s : ℕ). getD counts′ s 0) h ∙ c ∙ count-stored)
-      (ap (λ (s : ℕ). getD tokens′ s 0) h ∙ t ∙ token-stored)
+      (ap (λ (s : ℕ). getD tokens′ s 0) h ∙ t ∙ token-stored token)
       l (omega (arith, facts .own .some, slots-are request (length lengths))) p m
 
   -- of a queue that was empty, and any ring so long in which the device has marked the packet's last slot
-  pub first-reclaimed : q .posted ≡ 0 → (ring′ : List ℕ) → length ring′ ≡ length ring → isMarked ring′ (slotOf q (slots - 1)) ≡ true
-      → reclaimOf (movedTo q (q .head) slots) ring′ (tokensAfter q ring tokens counts addresses lengths token request) (countsAfter q ring tokens counts addresses lengths token request) ≡ record { answer = 0; queue = movedTo q (slotOf q slots) 0; token = token; count = slots }
-  first-reclaimed z ring′ e m =
+  pub first-reclaimed : (token : ℕ) → q .posted ≡ 0 → (ring′ : List ℕ) → length ring′ ≡ length ring → isMarked ring′ (slotOf q (slotsTaken request lengths - 1)) ≡ true
+      → reclaimOf (movedTo q (q .head) (slotsTaken request lengths)) ring′ (tokensAfter q ring tokens counts addresses lengths request token) (countsAfter q ring tokens counts addresses lengths request) ≡ record { answer = 0; queue = movedTo q (slotOf q (slotsTaken request lengths)) 0; token = token; count = slotsTaken request lengths }
+  first-reclaimed token z ring′ e m =
       let at-head : q .head ≡ tailOf q = sym (ap (λ (k : ℕ). k % q .size) (omega arith) ∙ mod-eq-of-lt (facts .lent-is .is .place .head-below)) in
-      let none : slots - slots ≡ 0 = omega arith in
-      sent-reclaimed (movedTo q (q .head) slots) ring′ _ _ lent-on at-head (omega arith) refl refl m ∙ rw none
+      let none : slotsTaken request lengths - slotsTaken request lengths ≡ 0 = omega arith in
+      sent-reclaimed token (movedTo q (q .head) (slotsTaken request lengths)) ring′ _ _ lent-on at-head (omega arith) refl refl m ∙ rw none
     where
-      sent-queue : sendOf q ring tokens counts addresses lengths token request .queue ≡ movedTo q (q .head) slots
-      sent-queue = rw (eq-eqb (answerTo q ring tokens counts addresses lengths token request) 0 done, z, zero-add)
+      sent-queue : sendOf q ring tokens counts addresses lengths request .queue ≡ movedTo q (q .head) (slotsTaken request lengths)
+      sent-queue = rw (eq-eqb (answerTo q ring tokens counts addresses lengths request) 0 done, z, zero-add)
 
-      lent-on : lentOk (movedTo q (q .head) slots) (length ring′) (length (tokensAfter q ring tokens counts addresses lengths token request)) (length (countsAfter q ring tokens counts addresses lengths token request)) ≡ true
-      lent-on = rw (← sent-queue, e ∙ sym (ring-long q ring tokens counts addresses lengths token request)) (send-lends q ring tokens counts addresses lengths token request (facts .lent-ok))
+      lent-on : lentOk (movedTo q (q .head) (slotsTaken request lengths)) (length ring′) (length (tokensAfter q ring tokens counts addresses lengths request token)) (length (countsAfter q ring tokens counts addresses lengths request)) ≡ true
+      lent-on = rw (← sent-queue, e ∙ sym (ring-long q ring tokens counts addresses lengths request)) (send-lends q ring tokens counts addresses lengths request (facts .lent-ok) token)

@@ -29,8 +29,8 @@ use Rattle.transmit.specs.Reclaim.{isMarked}
 use Rattle.transmit.specs.ReadBack.{word0, word1, isContext, requestAt, pieceSlot, Says}
 use Rattle.transmit.proofs.Laws.{Sendable, sendable}
 
-module _ (q : TxQueue) (ring tokens counts addresses lengths : List ℕ) (token : ℕ) (request : Request)
-    (done : answerTo q ring tokens counts addresses lengths token request ≡ 0) (after : List ℕ) (left : after ≡ ringAfter q ring tokens counts addresses lengths token request) where
+module _ (q : TxQueue) (ring tokens counts addresses lengths : List ℕ) (request : Request)
+    (done : answerTo q ring tokens counts addresses lengths request ≡ 0) (after : List ℕ) (left : after ≡ ringAfter q ring tokens counts addresses lengths request) where
   facts : Sendable q (length ring) (length tokens) (length counts) addresses lengths request
   facts = sendable q (length ring) (length tokens) (length counts) addresses lengths request done
 
@@ -38,22 +38,22 @@ module _ (q : TxQueue) (ring tokens counts addresses lengths : List ℕ) (token 
   n = length lengths
 
   after-is : after ≡ storeRun 2 (q .size) (descriptor request addresses lengths) ring (tailOf q) (slotsOf request n)
-  after-is = left ∙ rw (eq-eqb (answerTo q ring tokens counts addresses lengths token request) 0 done)
+  after-is = left ∙ rw (eq-eqb (answerTo q ring tokens counts addresses lengths request) 0 done)
 
   -- the slot that is k slots after the old tail has descriptor k
-  pub slot-reads : (k : ℕ) → k < slotsOf request n → numbersAt 2 after (slotAt (tailOf q) (q .size) k) ≡ descriptor request addresses lengths k
+  pub slot-reads : (k : ℕ) → k < slotsTaken request lengths → numbersAt 2 after (slotAt (tailOf q) (q .size) k) ≡ descriptor request addresses lengths k
   slot-reads k l =
       ap (λ (m : List ℕ). numbersAt 2 m (slotAt (tailOf q) (q .size) k)) after-is
       ∙ row-reads 2 (q .size) (descriptor request addresses lengths) ring (tailOf q) (two-words request addresses lengths) (facts .lent-is .ring-long) (slotsOf request n) k (omega (arith, facts .room, facts .lent-is .is .place)) l
 
-  piece-reads : (i : ℕ) → i < n → numbersAt 2 after (pieceSlot after (q .size) (tailOf q) addresses lengths request i) ≡ pieceNumbers request addresses lengths i
+  piece-reads : (i : ℕ) → i < n → numbersAt 2 after (pieceSlot (q .size) (tailOf q) request i) ≡ pieceNumbers request addresses lengths i
   piece-reads i l = slot-reads (slotsOf request i) (slots-more request l) ∙ piece-at request addresses lengths i
 
   abbrev here : ℕ → ℕ
-  here i = pieceSlot after (q .size) (tailOf q) addresses lengths request i
+  here i = pieceSlot (q .size) (tailOf q) request i
 
   abbrev data-at : ℕ → Data
-  data-at i = dataOf request (getD lengths i 0) (isLast request addresses lengths i)
+  data-at i = dataOf request (getD lengths i 0) (isLast lengths i)
 
   piece-word : (i : ℕ) → i < n → word1 after (here i) ≡ dataWord (data-at i)
   piece-word i l = ap (λ (ns : List ℕ). getD ns 1 0) (piece-reads i l)
@@ -61,7 +61,7 @@ module _ (q : TxQueue) (ring tokens counts addresses lengths : List ℕ) (token 
   piece-says : (i : ℕ) → i < n → readData (word1 after (here i)) ≡ data-at i
   piece-says i l =
       ap readData (piece-word i l)
-      ∙ piece-back (q .frame) request (facts .own .sound) (getD lengths i 0) (isLast request addresses lengths i) (facts .own .each i l .1)
+      ∙ piece-back (q .frame) request (facts .own .sound) (getD lengths i 0) (isLast lengths i) (facts .own .each i l .1)
 
   -- the old tail is the first slot
   first-slot : slotAt (tailOf q) (q .size) 0 ≡ tailOf q
@@ -74,7 +74,7 @@ module _ (q : TxQueue) (ring tokens counts addresses lengths : List ℕ) (token 
 
   context-says : request .segmented ≡ true → (word0 after (tailOf q) ≡ 0) × (word1 after (tailOf q) ≡ contextWord (contextOf request))
   context-says t =
-      let e : numbersAt 2 after (tailOf q) ≡ contextNumbers request addresses lengths = first-reads ∙ context-first request addresses lengths t in
+      let e : numbersAt 2 after (tailOf q) ≡ contextNumbers request = first-reads ∙ context-first request addresses lengths t in
       (ap (λ (ns : List ℕ). getD ns 0 0) e, ap (λ (ns : List ℕ). getD ns 1 0) e)
 
   frame-fits : q .frame < 2 ^ 14
@@ -103,7 +103,7 @@ module _ (q : TxQueue) (ring tokens counts addresses lengths : List ℕ) (token 
   request-says : (i : ℕ) → i < n → requestAt after (tailOf q) (here i) ≡ request
   request-says i l =
       ap₂ (λ (b : Bool) (w : ℕ). requestOf b (readContext (word1 after (tailOf q))) (readData w)) type-says (piece-word i l)
-      ∙ request-back (q .frame) request (facts .own .sound) (readContext (word1 after (tailOf q))) (getD lengths i 0) (isLast request addresses lengths i) (facts .own .each i l .1) frame-fits (λ t. ap readContext (context-says t .1))
+      ∙ request-back (q .frame) request (facts .own .sound) (readContext (word1 after (tailOf q))) (getD lengths i 0) (isLast lengths i) (facts .own .each i l .1) frame-fits (λ t. ap readContext (context-says t .1))
 
   pub reads-back : Says after (q .size) (tailOf q) addresses lengths request
   reads-back =
@@ -117,7 +117,7 @@ module _ (q : TxQueue) (ring tokens counts addresses lengths : List ℕ) (token 
       }
 
   -- a mark that the device left on an earlier lap is gone
-  pub not-marked : isMarked after (slotAt (tailOf q) (q .size) (slotsTaken q ring tokens counts addresses lengths token request - 1)) ≡ false
+  pub not-marked : isMarked after (slotAt (tailOf q) (q .size) (slotsTaken request lengths - 1)) ≡ false
   not-marked =
       let i : ℕ = n - 1 in
       let e : slotsOf request n - 1 ≡ slotsOf request i = last-slot (request .segmented) in

@@ -2,3 +2,4 @@ pub mod Queue
 pub mod Send
 pub mod Reclaim
 pub mod ReadBack
+pub mod Steps

@@ -1,12 +1,11 @@
 -- The transmit queue record (01, "The queue record"): the lines that it keeps, a fresh queue, the tail.
 -- Assumes nothing.
-use Prim.Native.Nat.{ℕ, _*_, _≤_}
-use mathlib.Core.Path.{_≡_}
+use Prim.Native.Nat.{ℕ, _*_}
 use mathlib.Core.Bool.{Bool, _&&_, cond}
 use lib.Dec.{eqb}
 use Rattle.rules.specs.Rules.{within}
 use Rattle.ring.specs.Slots.{slotAt, tailAt}
-use Rattle.ring.specs.Sizes.{queueOk, placeOk, Placed}
+use Rattle.ring.specs.Sizes.{queueOk, placeOk}
 use Rattle.transmit.specs.declared.TxQueue.{TxQueue}
 use Rattle.transmit.specs.declared.Fresh.{Fresh}
 use Rattle.transmit.specs.declared.Asked.{Asked}
@@ -25,21 +24,10 @@ numbersOk queue size frame = queueOk queue size && within leastFrame mostFrame f
 unfoldable pub recordOk : TxQueue → Bool
 recordOk q = numbersOk (q .queue) (q .size) (q .frame) && placeOk (q .size) (q .head) (q .posted)
 
--- and lent slices of exactly the size's lengths: a ring, tokens and slot counts so long
+-- and lent slices of exactly the size's lengths
 unfoldable pub lentOk : TxQueue → ℕ → ℕ → ℕ → Bool
-lentOk q ring tokens counts = recordOk q && (eqb ring (2 * q .size) && (eqb tokens (q .size) && eqb counts (q .size)))
-
--- what an accepted record keeps, as facts
-pub record Kept (q : TxQueue) : Type 0 where
-  pub place : Placed (q .queue) (q .size) (q .head) (q .posted)
-  pub frame-low : leastFrame ≤ q .frame
-  pub frame-high : q .frame ≤ mostFrame
-
-pub record Lent (q : TxQueue) (ring tokens counts : ℕ) : Type 0 where
-  pub is : Kept q
-  pub ring-long : ring ≡ 2 * q .size
-  pub tokens-long : tokens ≡ q .size
-  pub counts-long : counts ≡ q .size
+lentOk q ringLength tokensLength countsLength =
+    recordOk q && (eqb ringLength (2 * q .size) && (eqb tokensLength (q .size) && eqb countsLength (q .size)))
 
 -- the slot at a distance from head, and the tail
 abbrev pub slotOf : TxQueue → ℕ → ℕ

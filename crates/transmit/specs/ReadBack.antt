@@ -27,16 +27,16 @@ isContext ring s = eqb (readAt typeLine (word1 ring s)) 1
 abbrev pub requestAt : List ℕ → ℕ → ℕ → Request
 requestAt ring first s = requestOf (isContext ring first) (readContext (word1 ring first)) (readData (word1 ring s))
 
-module _ (ring : List ℕ) (size first : ℕ) (addresses lengths : List ℕ) (request : Request) where
-  -- the slot of piece i, after the context descriptor if there is one
-  abbrev pub pieceSlot : ℕ → ℕ
-  pieceSlot i = slotAt first size (slotsOf request i)
+-- the slot of piece i of a packet, after the context descriptor if there is one
+abbrev pub pieceSlot : ℕ → ℕ → Request → ℕ → ℕ
+pieceSlot size first request i = slotAt first size (slotsOf request i)
 
+module _ (ring : List ℕ) (size first : ℕ) (addresses lengths : List ℕ) (request : Request) where
   -- the slots from `first` on give back these pieces in their order and this request; EOP and RS stand on the last alone
   pub record Says : Type 0 where
-    pub address-at : (i : ℕ) → i < length lengths → word0 ring (pieceSlot i) ≡ getD addresses i 0
-    pub length-at : (i : ℕ) → i < length lengths → readData (word1 ring (pieceSlot i)) .length ≡ getD lengths i 0
-    pub eop-at : (i : ℕ) → i < length lengths → readData (word1 ring (pieceSlot i)) .eop ≡ isLast request addresses lengths i
-    pub rs-at : (i : ℕ) → i < length lengths → readData (word1 ring (pieceSlot i)) .rs ≡ isLast request addresses lengths i
-    pub request-at : (i : ℕ) → i < length lengths → requestAt ring first (pieceSlot i) ≡ request
+    pub address-at : (i : ℕ) → i < length lengths → word0 ring (pieceSlot size first request i) ≡ getD addresses i 0
+    pub length-at : (i : ℕ) → i < length lengths → readData (word1 ring (pieceSlot size first request i)) .length ≡ getD lengths i 0
+    pub eop-at : (i : ℕ) → i < length lengths → readData (word1 ring (pieceSlot size first request i)) .eop ≡ isLast lengths i
+    pub rs-at : (i : ℕ) → i < length lengths → readData (word1 ring (pieceSlot size first request i)) .rs ≡ isLast lengths i
+    pub request-at : (i : ℕ) → i < length lengths → requestAt ring first (pieceSlot size first request i) ≡ request
     pub context-at : request .segmented ≡ true → (word0 ring first ≡ 0) × (readContext (word1 ring first) ≡ contextOf request)

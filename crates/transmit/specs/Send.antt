@@ -5,59 +5,85 @@ use mathlib.Core.Path.{_≡_}
 use mathlib.Core.Bool.{not, cond}
 use mathlib.Core.List.{List, [], _∷_, _++_}
 use lib.Dec.{ltb, eqb}
-use lib.ListN.{length, set}
+use lib.ListN.{length, getD, set}
 use Rattle.rules.specs.Rules.{Check, _when_, answerOf}
-use Rattle.ring.specs.Memory.{storeRun}
+use Rattle.ring.specs.Memory.{numbersAt, storeRun}
 use Rattle.offload.specs.declared.Request.{Request}
 use Rattle.offload.specs.Request.{slotsOf}
-use Rattle.offload.specs.Offload.{sendChecks}
+use Rattle.offload.specs.Offload.{packetChecks}
 use Rattle.fill.specs.Descriptors.{descriptor}
 use Rattle.transmit.specs.declared.TxQueue.{TxQueue}
 use Rattle.transmit.specs.declared.Sent.{Sent}
-use Rattle.transmit.specs.Queue.{lentOk, tailOf, movedTo}
+use Rattle.transmit.specs.Queue.{lentOk, slotOf, tailOf, movedTo}
 
 -- slots that a send may still take
 abbrev pub freeSlots : TxQueue → ℕ
 freeSlots q = q .size - 1 - q .posted
 
--- of a ring, tokens and counts so long: 1 the record or a slice is wrong; 6, 2, 7, 8 of the pieces and the request; 3 slots needed
--- exceed size - 1 - posted
-abbrev pub checks : TxQueue → ℕ → ℕ → ℕ → List ℕ → List ℕ → Request → List Check
-checks q ring tokens counts addresses lengths request =
-    (1 when not (lentOk q ring tokens counts))
-    ∷ (sendChecks addresses lengths (q .frame) request ++ (3 when ltb (freeSlots q) (slotsOf request (length lengths)) ∷ []))
+-- the slots that a send of such pieces needs, and takes
+abbrev pub slotsTaken : Request → List ℕ → ℕ
+slotsTaken request lengths = slotsOf request (length lengths)
+
+-- 1 the record or a slice's length is wrong; 6, 2, 7, 8 of the pieces and the request; 3 slots needed exceed size - 1 - posted
+abbrev pub sendChecks : TxQueue → ℕ → ℕ → ℕ → List ℕ → List ℕ → Request → List Check
+sendChecks q ringLength tokensLength countsLength addresses lengths request =
+    (1 when not (lentOk q ringLength tokensLength countsLength))
+    ∷ (packetChecks addresses lengths (q .frame) request ++ (3 when ltb (freeSlots q) (slotsTaken request lengths) ∷ []))
 
 unfoldable pub sendAnswer : TxQueue → ℕ → ℕ → ℕ → List ℕ → List ℕ → Request → ℕ
-sendAnswer q ring tokens counts addresses lengths request = answerOf (checks q ring tokens counts addresses lengths request)
+sendAnswer q ringLength tokensLength countsLength addresses lengths request =
+    answerOf (sendChecks q ringLength tokensLength countsLength addresses lengths request)
 
-module _ (q : TxQueue) (ring tokens counts addresses lengths : List ℕ) (token : ℕ) (request : Request) where
+module _ (q : TxQueue) (ring tokens counts addresses lengths : List ℕ) (request : Request) where
   abbrev pub answerTo : ℕ
   answerTo = sendAnswer q (length ring) (length tokens) (length counts) addresses lengths request
 
-  -- the slots that it takes
-  abbrev pub slotsTaken : ℕ
-  slotsTaken = slotsOf request (length lengths)
-
-  -- posted grows by the slots
+  -- posted grows by the slots; a refusal gives the record as it came and 0
   abbrev pub sendOf : Sent
   sendOf =
       cond (eqb answerTo 0)
-      (record { answer = 0; queue = movedTo q (q .head) (q .posted + slotsTaken); slots = slotsTaken })
+      (record { answer = 0; queue = movedTo q (q .head) (q .posted + slotsTaken request lengths); slots = slotsTaken request lengths })
       (record { answer = answerTo; queue = q; slots = 0 })
 
   -- the descriptors from the tail upward, the token and the slot count at the packet's first slot; all other places stay
   abbrev pub ringAfter : List ℕ
-  ringAfter = cond (eqb answerTo 0) (storeRun 2 (q .size) (descriptor request addresses lengths) ring (tailOf q) slotsTaken) ring
+  ringAfter =
+      cond (eqb answerTo 0) (storeRun 2 (q .size) (descriptor request addresses lengths) ring (tailOf q) (slotsTaken request lengths)) ring
 
-  abbrev pub tokensAfter : List ℕ
-  tokensAfter = cond (eqb answerTo 0) (set tokens (tailOf q) token) tokens
+  abbrev pub tokensAfter : ℕ → List ℕ
+  tokensAfter token = cond (eqb answerTo 0) (set tokens (tailOf q) token) tokens
 
   abbrev pub countsAfter : List ℕ
-  countsAfter = cond (eqb answerTo 0) (set counts (tailOf q) slotsTaken) counts
+  countsAfter = cond (eqb answerTo 0) (set counts (tailOf q) (slotsTaken request lengths)) counts
 
   -- all that send returns and leaves
-  pub record SentAs (r : Sent) (ring′ tokens′ counts′ : List ℕ) : Type 0 where
+  pub record SentAs (token : ℕ) (r : Sent) (ring′ tokens′ counts′ : List ℕ) : Type 0 where
     pub result-is : r ≡ sendOf
     pub ring-is : ring′ ≡ ringAfter
-    pub tokens-is : tokens′ ≡ tokensAfter
+    pub tokens-is : tokens′ ≡ tokensAfter token
     pub counts-is : counts′ ≡ countsAfter
+
+  -- a refused send: the record as it came and no slots, and no change in lent memory
+  pub record Unchanged (token : ℕ) : Type 0 where
+    pub result-is : sendOf ≡ record { answer = answerTo; queue = q; slots = 0 }
+    pub ring-same : ringAfter ≡ ring
+    pub tokens-same : tokensAfter token ≡ tokens
+    pub counts-same : countsAfter ≡ counts
+
+  -- the slot at distance k from head reads as it did, and so do its token and its count
+  pub record Stays (token k : ℕ) : Type 0 where
+    pub words-same : numbersAt 2 ringAfter (slotOf q k) ≡ numbersAt 2 ring (slotOf q k)
+    pub token-same : getD (tokensAfter token) (slotOf q k) 0 ≡ getD tokens (slotOf q k) 0
+    pub count-same : getD countsAfter (slotOf q k) 0 ≡ getD counts (slotOf q k) 0
+
+-- what a send returns and leaves, as one
+pub record Outcome : Type 0 where
+  pub result : Sent
+  pub ring : List ℕ
+  pub tokens : List ℕ
+  pub counts : List ℕ
+
+-- an outcome that meets the statement of send
+abbrev pub Meets : TxQueue → List ℕ → List ℕ → List ℕ → List ℕ → List ℕ → Request → ℕ → Outcome → Type 0
+Meets q ring tokens counts addresses lengths request token o =
+    SentAs q ring tokens counts addresses lengths request token (o .result) (o .ring) (o .tokens) (o .counts)

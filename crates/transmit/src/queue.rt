@@ -19,6 +19,7 @@ fn numbers_ok(queue: usize, size: usize, frame: usize) -> bool
 }
 
 impl TxQueue {
+    // Answers 1 and an all-zero record, if a number breaks its line, or 0.
     pub fn fresh(queue: usize, size: usize, frame: usize) -> Fresh
         ensures { λ r. ⌜ r ≡ freshOf queue size frame ⌝ }
     {
@@ -54,13 +55,18 @@ impl TxQueue {
             & ring::place_ok(self.size, self.head, self.posted)
     }
 
-    // The record, and the lengths of the lent ring, tokens and slot counts.
-    pub(crate) fn lent_ok(self, ring: usize, tokens: usize, counts: usize) -> bool
-        ensures { λ r. ⌜ r ≡ lentOk self ring tokens counts ⌝ }
+    // The record, and the lengths of the lent slices.
+    pub(crate) fn lent_ok(
+        self,
+        ring_length: usize,
+        tokens_length: usize,
+        counts_length: usize,
+    ) -> bool
+        ensures { λ r. ⌜ r ≡ lentOk self «ring_length» «tokens_length» «counts_length» ⌝ }
     {
         let size = self.size;
         if self.record_ok() {
-            (ring == 2 * size) & ((tokens == size) & (counts == size))
+            (ring_length == 2 * size) & ((tokens_length == size) & (counts_length == size))
         } else {
             false
         }
@@ -78,6 +84,7 @@ impl TxQueue {
         }
     }
 
+    // Answers 1, if the record breaks a line, or 0; 0 beside a refusal.
     pub fn tail_value(self) -> Asked
         ensures { λ r. ⌜ r ≡ tailValueOf self ⌝ }
     {
@@ -94,6 +101,7 @@ impl TxQueue {
         }
     }
 
+    // Answers 1, if the record breaks a line, or 0; 0 beside a refusal.
     pub fn tail_register(self) -> Asked
         ensures { λ r. ⌜ r ≡ tailRegisterOf self ⌝ }
     {

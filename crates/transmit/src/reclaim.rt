@@ -39,6 +39,7 @@ impl TxQueue {
         }
     }
 
+    // Answers 1, 4 (nothing posted), 5 or 4 (not yet done), the first whose cause holds, or 0; a refusal changes nothing.
     pub fn reclaim(self, ring: &[u64], tokens: &[u64], counts: &[u16]) -> Reclaimed
         ensures { λ r. ⌜ r ≡ reclaimOf self (now (ring .entry)) (now (tokens .entry)) (now (counts .entry)) ⌝ }
     {

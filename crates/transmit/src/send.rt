@@ -25,18 +25,18 @@ fn slots_of(request: Request, pieces: usize) -> usize
 impl TxQueue {
     fn send_answer(
         self,
-        ring: usize,
-        tokens: usize,
-        counts: usize,
+        ring_length: usize,
+        tokens_length: usize,
+        counts_length: usize,
         addresses: &[u64],
         lengths: &[u64],
         request: Request,
     ) -> u8
-        ensures { λ r. ⌜ r ≡ sendAnswer self ring tokens counts (now (addresses .entry)) (now (lengths .entry)) request ⌝ }
+        ensures { λ r. ⌜ r ≡ sendAnswer self «ring_length» «tokens_length» «counts_length» (now (addresses .entry)) (now (lengths .entry)) request ⌝ }
     {
         let size = self.size;
         let posted = self.posted;
-        if self.lent_ok(ring, tokens, counts) {
+        if self.lent_ok(ring_length, tokens_length, counts_length) {
             let own = judge(addresses, lengths, self.frame as u64, request);
             if own == 0 {
                 if size - 1 - posted < slots_of(request, lengths.len()) {
@@ -52,6 +52,7 @@ impl TxQueue {
         }
     }
 
+    // Answers 1, 6, 2, 7, 8 or 3, the first whose cause holds, or 0; a refusal changes nothing.
     pub fn send(
         self,
         ring: &mut [u64],
@@ -62,7 +63,7 @@ impl TxQueue {
         token: u64,
         request: Request,
     ) -> Sent
-        ensures { λ r. ⌜ SentAs self (now (ring .entry)) (now (tokens .entry)) (now (counts .entry)) (now (addresses .entry)) (now (lengths .entry)) token request r (now (ring .exit)) (now (tokens .exit)) (now (counts .exit)) ⌝ }
+        ensures { λ r. ⌜ SentAs self (now (ring .entry)) (now (tokens .entry)) (now (counts .entry)) (now (addresses .entry)) (now (lengths .entry)) request token r (now (ring .exit)) (now (tokens .exit)) (now (counts .exit)) ⌝ }
     {
         let answer = self.send_answer(
             ring.len(),

@@ -5,7 +5,7 @@ use native.Mathlib.Omega.{arith}
 use borrow.Author.Needs.{needs}
 use borrow.Author.Tests.{eq-eqb, ne-eqb}
 use lib.ListN.{length}
-use Rattle.transmit.specs.Queue.{Lent}
+use Rattle.transmit.specs.Steps.{Lent}
 use Rattle.transmit.specs.Reclaim.{reclaimAnswer}
 use Rattle.transmit.proofs.Laws.{lent, Counted, counted}
 use Rattle.transmit.proofs.TxQueue.reclaim_answer.Statement.{statement}
@@ -30,8 +30,8 @@ entry d = d .before .before .before .before .before .before .before .before
 ready : (d : tie.Else3) → Lent (entry d .args .self) (length (entry d .args .ring .now)) (length (entry d .args .tokens .now)) (length (entry d .args .counts .now))
 ready d = lent _ _ _ _ (sym (d .before .before .before .before .lent-ok .ensures) ∙ d .before .before .before .if1 .taken)
 
-count : (d : tie.Else3) → Counted (entry d .args .self) (entry d .args .ring .now) (entry d .args .tokens .now) (entry d .args .counts .now)
-count d = counted _ (entry d .args .ring .now) (entry d .args .tokens .now) _ (d .if3 .left)
+count : (d : tie.Else3) → Counted (entry d .args .self) (entry d .args .counts .now)
+count d = counted _ _ (d .if3 .left)
 
 sub-slot : tie.Need-sub-slot
 sub-slot c = omega (arith, count c .some)

@@ -4,7 +4,7 @@ use mathlib.Core.Path.{sym, _∙_}
 use native.Mathlib.Omega.{arith}
 use borrow.Author.Needs.{needs}
 use borrow.Author.Tests.{ne-eqb, lt-ltb, le-ltb}
-use Rattle.offload.specs.Offload.{sendChecks}
+use Rattle.offload.specs.Offload.{packetChecks}
 use Rattle.offload.proofs.Accepted.{accepted}
 use Rattle.offload.proofs.Causes.{asked-next}
 use Rattle.transmit.specs.Send.{sendAnswer}
@@ -29,15 +29,15 @@ slots-of-requires c κs = accepted _ _ _ _ (sym (c .before .judge .ensures) ∙ 
 
 returns : tie.Need-returns
 unfolding sendAnswer
-returns c = rw (sym (c .before .before .before .before .before .lent-ok .ensures), c .before .before .before .before .if1 .taken, asked-next (sendChecks _ _ _ _) _ tt, sym (c .before .before .before .judge .ensures), c .before .before .if2 .taken, sym (c .before .slots-of .ensures), lt-ltb _ _ (c .if3 .taken))
+returns c = rw (sym (c .before .before .before .before .before .lent-ok .ensures), c .before .before .before .before .if1 .taken, asked-next (packetChecks _ _ _ _) _ tt, sym (c .before .before .before .judge .ensures), c .before .before .if2 .taken, sym (c .before .slots-of .ensures), lt-ltb _ _ (c .if3 .taken))
 
 returns-2 : tie.Need-returns-2
 unfolding sendAnswer
-returns-2 c = rw (sym (c .before .before .before .before .before .lent-ok .ensures), c .before .before .before .before .if1 .taken, asked-next (sendChecks _ _ _ _) _ tt, sym (c .before .before .before .judge .ensures), c .before .before .if2 .taken, sym (c .before .slots-of .ensures), le-ltb _ _ (c .if3 .left))
+returns-2 c = rw (sym (c .before .before .before .before .before .lent-ok .ensures), c .before .before .before .before .if1 .taken, asked-next (packetChecks _ _ _ _) _ tt, sym (c .before .before .before .judge .ensures), c .before .before .if2 .taken, sym (c .before .slots-of .ensures), le-ltb _ _ (c .if3 .left))
 
 returns-3 : tie.Need-returns-3
 unfolding sendAnswer
-returns-3 c = rw (sym (c .before .before .before .lent-ok .ensures), c .before .before .if1 .taken, asked-next (sendChecks _ _ _ _) _ tt, sym (c .before .judge .ensures), ne-eqb _ _ (c .if2 .left))
+returns-3 c = rw (sym (c .before .before .before .lent-ok .ensures), c .before .before .if1 .taken, asked-next (packetChecks _ _ _ _) _ tt, sym (c .before .judge .ensures), ne-eqb _ _ (c .if2 .left))
 
 returns-4 : tie.Need-returns-4
 unfolding sendAnswer

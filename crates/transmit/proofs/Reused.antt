@@ -1,0 +1,62 @@
+-- Reclaimed slots are used again: a reclaim that is done raises the free slots by its count, and a send that was refused with 3 passes
+-- once they reach what it needs.
+-- Assumes nothing.
+use Prim.Native.Nat.{ℕ, _+_, _-_, _≤_}
+use mathlib.Core.Path.{_≡_, refl, ap}
+use mathlib.Core.Bool.{Bool, true, false, cond}
+use mathlib.Core.List.{List}
+use native.Mathlib.Omega.{arith}
+use borrow.Author.Tests.{eq-eqb, eqb-true}
+use lib.Dec.{eqb}
+use lib.ListN.{length}
+use Rattle.offload.specs.declared.Request.{Request}
+use Rattle.transmit.specs.declared.TxQueue.{TxQueue}
+use Rattle.transmit.specs.declared.Reclaimed.{Reclaimed}
+use Rattle.transmit.specs.Send.{freeSlots, slotsTaken, sendAnswer}
+use Rattle.transmit.specs.Reclaim.{doneOf, countAt, tokenAt, reclaimAnswer, reclaimOf, Freed}
+use Rattle.transmit.proofs.Laws.{lent-record, Reclaimable, reclaimable}
+use Rattle.transmit.proofs.Causes.{retry}
+use Rattle.transmit.proofs.Keeps.{reclaim-keeps}
+
+module _ (q : TxQueue) (ring tokens counts : List ℕ) (done : reclaimOf q ring tokens counts .answer ≡ 0) where
+  passes : reclaimAnswer q ring tokens counts ≡ 0
+  unfolding reclaimOf
+  passes = go (eqb answer 0) refl done
+    where
+      answer : ℕ
+      answer = reclaimAnswer q ring tokens counts
+
+      given : Bool → Reclaimed
+      given b = cond b (doneOf q (tokenAt q tokens) (countAt q counts)) (record { answer = answer; queue = q; token = 0; count = 0 })
+
+      go : (b : Bool) → eqb answer 0 ≡ b → given b .answer ≡ 0 → answer ≡ 0
+      go true e z = eqb-true answer 0 e
+      go false e z = z
+
+  facts : Reclaimable q ring tokens counts
+  facts = reclaimable q ring tokens counts passes
+
+  is-done : reclaimOf q ring tokens counts ≡ doneOf q (tokenAt q tokens) (countAt q counts)
+  unfolding reclaimOf
+  is-done = rw (eq-eqb (reclaimAnswer q ring tokens counts) 0 passes)
+
+  pub reclaim-frees : Freed q (reclaimOf q ring tokens counts)
+  reclaim-frees =
+      let count : reclaimOf q ring tokens counts .count ≡ countAt q counts = ap (λ (r : Reclaimed). r .count) is-done in
+      let free : freeSlots (reclaimOf q ring tokens counts .queue) ≡ q .size - 1 - (q .posted - countAt q counts) = ap (λ (r : Reclaimed). freeSlots (r .queue)) is-done in
+      record {
+        accepted = reclaim-keeps q (lent-record q (length ring) (length tokens) (length counts) (facts .lent-ok)) ring tokens counts;
+        size-same = ap (λ (r : Reclaimed). r .queue .size) is-done;
+        frame-same = ap (λ (r : Reclaimed). r .queue .frame) is-done;
+        some = omega (arith, facts .count-is .some);
+        more = omega (arith, facts .count-is .most, facts .lent-is .is .place);
+      }
+
+  -- tried again on the record that the reclaim gave back, with slices of any lengths
+  pub used-again : (ringLength tokensLength countsLength : ℕ) (addresses lengths : List ℕ) (request : Request)
+      → sendAnswer q ringLength tokensLength countsLength addresses lengths request ≡ 3
+      → slotsTaken request lengths ≤ freeSlots q + reclaimOf q ring tokens counts .count
+      → sendAnswer (reclaimOf q ring tokens counts .queue) ringLength tokensLength countsLength addresses lengths request ≡ 0
+  used-again ringLength tokensLength countsLength addresses lengths request refused enough =
+      let f = reclaim-frees in
+      retry q ringLength tokensLength countsLength addresses lengths request (reclaimOf q ring tokens counts .queue) (f .accepted) (f .size-same) (f .frame-same) (omega (arith, f .more)) refused
