@@ -8,12 +8,10 @@ use mathlib.Core.Bool.{true, false, not}
 use mathlib.Core.List.{List, [], _∷_}
 use native.Mathlib.Omega.{arith}
 use borrow.Author.Tests.{le-ltb, not-false}
-use lib.ListN.{length}
 use Rattle.rules.specs.Rules.{Check, _when_, answerOf, nth, Answers}
 use Rattle.rules.proofs.Checks.{has-cause, is-answered, one-check, passed, passes}
 use Rattle.segments.specs.Touch.{mostTouched, touched}
 use Rattle.offload.specs.declared.Request.{Request}
-use Rattle.offload.specs.Request.{slotsOf}
 use Rattle.offload.proofs.Causes.{plain-touches}
 use Rattle.transmit.specs.declared.TxQueue.{TxQueue}
 use Rattle.transmit.specs.declared.Fresh.{Fresh}
@@ -47,22 +45,41 @@ module _ (q : TxQueue) (ring tokens counts : List ℕ) (n : ℕ) where
 -- ---- send: 1, 6, 2, 7, 8, 3
 
 module _ (q : TxQueue) (ringLength tokensLength countsLength : ℕ) (addresses lengths : List ℕ) (request : Request) where
-  pub send-cause : (n : ℕ) → sendAnswer q ringLength tokensLength countsLength addresses lengths request ≡ n → n ≢ 0 → (i : ℕ) × Answers (sendChecks q ringLength tokensLength countsLength addresses lengths request) n i
-  unfolding sendAnswer
-  send-cause n e ne = has-cause (sendChecks q ringLength tokensLength countsLength addresses lengths request) n e ne
+  abbrev its-checks : List Check
+  its-checks = sendChecks q ringLength tokensLength countsLength addresses lengths request
 
-  pub send-answered : (n i : ℕ) → Answers (sendChecks q ringLength tokensLength countsLength addresses lengths request) n i → sendAnswer q ringLength tokensLength countsLength addresses lengths request ≡ n
+  pub send-cause : (n : ℕ) → sendAnswer q ringLength tokensLength countsLength addresses lengths request ≡ n → n ≢ 0
+      → (i : ℕ) × Answers (sendChecks q ringLength tokensLength countsLength addresses lengths request) n i
   unfolding sendAnswer
-  send-answered n i a = is-answered (sendChecks q ringLength tokensLength countsLength addresses lengths request) n i a
+  send-cause n e ne = has-cause its-checks n e ne
+
+  pub send-answered : (n i : ℕ) → Answers (sendChecks q ringLength tokensLength countsLength addresses lengths request) n i
+      → sendAnswer q ringLength tokensLength countsLength addresses lengths request ≡ n
+  unfolding sendAnswer
+  send-answered n i a = is-answered its-checks n i a
 
   -- no segment of an accepted plain send would touch more than 8 pieces
-  pub plain-never-over : sendAnswer q ringLength tokensLength countsLength addresses lengths request ≡ 0 → request .segmented ≡ false → (header mss tlen k : ℕ) → touched lengths header mss tlen k ≤ mostTouched
+  pub plain-never-over : sendAnswer q ringLength tokensLength countsLength addresses lengths request ≡ 0 → request .segmented ≡ false
+      → (header mss tlen k : ℕ) → touched lengths header mss tlen k ≤ mostTouched
   unfolding sendAnswer
-  plain-never-over e f = plain-touches addresses lengths (q .frame) request (not-false _ (passed (sendChecks q ringLength tokensLength countsLength addresses lengths request) tt e 1)) f
+  plain-never-over e f = plain-touches addresses lengths (q .frame) request (not-false _ (passed its-checks tt e 1)) f
+
+  -- no check but the last answers 3
+  by-last : (i : ℕ) → Answers its-checks 3 i → (j : ℕ) → j < 5 → nth its-checks j .cause ≡ false
+  by-last zero a = absurd (omega (arith, a .number-is))
+  by-last (suc zero) a = absurd (omega (arith, a .number-is))
+  by-last (suc (suc zero)) a = absurd (omega (arith, a .number-is))
+  by-last (suc (suc (suc zero))) a = absurd (omega (arith, a .number-is))
+  by-last (suc (suc (suc (suc zero)))) a = absurd (omega (arith, a .number-is))
+  by-last (suc (suc (suc (suc (suc zero))))) a = a .none-before
+  by-last (suc (suc (suc (suc (suc (suc i)))))) a = absurd (omega (arith, a .within-list))
 
   -- retry: refused with 3, it gets 0 on any accepted record of the same size and frame whose free slots reach what it needs
   module _ (q′ : TxQueue) (ok : recordOk q′ ≡ true) (same-size : q′ .size ≡ q .size) (same-frame : q′ .frame ≡ q .frame) (room : slotsTaken request lengths ≤ freeSlots q′) where
-    all-pass : ((j : ℕ) → j < 5 → nth (sendChecks q ringLength tokensLength countsLength addresses lengths request) j .cause ≡ false) → (j : ℕ) → nth (sendChecks q′ ringLength tokensLength countsLength addresses lengths request) j .cause ≡ false
+    abbrev now-asked : List Check
+    now-asked = sendChecks q′ ringLength tokensLength countsLength addresses lengths request
+
+    all-pass : ((j : ℕ) → j < 5 → nth its-checks j .cause ≡ false) → (j : ℕ) → nth now-asked j .cause ≡ false
     all-pass before zero = rw (lent-same q ringLength tokensLength countsLength (not-false _ (before 0 (omega arith))) q′ ok same-size)
     all-pass before (suc zero) = rw same-frame (before 1 (omega arith))
     all-pass before (suc (suc zero)) = before 2 (omega arith)
@@ -71,18 +88,6 @@ module _ (q : TxQueue) (ringLength tokensLength countsLength : ℕ) (addresses l
     all-pass before (suc (suc (suc (suc (suc zero))))) = le-ltb _ _ room
     all-pass before (suc (suc (suc (suc (suc (suc j)))))) = refl
 
-    -- no check but the last answers 3
-    by-last : (i : ℕ) → Answers (sendChecks q ringLength tokensLength countsLength addresses lengths request) 3 i → (j : ℕ) → j < 5 → nth (sendChecks q ringLength tokensLength countsLength addresses lengths request) j .cause ≡ false
-    by-last zero a = absurd (omega (arith, a .number-is))
-    by-last (suc zero) a = absurd (omega (arith, a .number-is))
-    by-last (suc (suc zero)) a = absurd (omega (arith, a .number-is))
-    by-last (suc (suc (suc zero))) a = absurd (omega (arith, a .number-is))
-    by-last (suc (suc (suc (suc zero)))) a = absurd (omega (arith, a .number-is))
-    by-last (suc (suc (suc (suc (suc zero))))) a = a .none-before
-    by-last (suc (suc (suc (suc (suc (suc i)))))) a = absurd (omega (arith, a .within-list))
-
     pub retry : sendAnswer q ringLength tokensLength countsLength addresses lengths request ≡ 3 → sendAnswer q′ ringLength tokensLength countsLength addresses lengths request ≡ 0
     unfolding sendAnswer
-    retry e =
-        let a = has-cause (sendChecks q ringLength tokensLength countsLength addresses lengths request) 3 e (λ z. omega arith) in
-        passes (sendChecks q′ ringLength tokensLength countsLength addresses lengths request) (all-pass (by-last (a .0) (a .1)))
+    retry e = let a = has-cause its-checks 3 e (λ z. omega arith) in passes now-asked (all-pass (by-last (a .0) (a .1)))

@@ -35,6 +35,7 @@ sendAnswer q ringLength tokensLength countsLength addresses lengths request =
     answerOf (sendChecks q ringLength tokensLength countsLength addresses lengths request)
 
 module _ (q : TxQueue) (ring tokens counts addresses lengths : List ℕ) (request : Request) where
+  -- the answer, with these slices lent
   abbrev pub answerTo : ℕ
   answerTo = sendAnswer q (length ring) (length tokens) (length counts) addresses lengths request
 
