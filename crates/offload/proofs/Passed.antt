@@ -17,16 +17,20 @@ use Rattle.offload.specs.Offload.{mostLength, mostPiecesOf, lengthsOk}
 use Rattle.offload.specs.Steps.{Walkable}
 use Rattle.offload.proofs.Laws.{most-is}
 
-module _ (addresses lengths : List ℕ) where
-  abbrev lengthAt : ℕ → Bool
-  lengthAt i = within 1 mostLength (getD lengths i 0)
+abbrev lengthAt : List ℕ → ℕ → Bool
+lengthAt lengths i = within 1 mostLength (getD lengths i 0)
 
+-- a length that is wrong
+pub stopped : (lengths : List ℕ) (i : ℕ) → i < length lengths → lengthAt lengths i ≡ false → false ≡ lengthsOk lengths
+stopped lengths i l e = sym (all-no (lengthAt lengths) (length lengths) i l e)
+
+module _ (addresses lengths : List ℕ) where
   abbrev addressAt : ℕ → Bool
   addressAt i = not (addressWrong (getD addresses i 0) (getD lengths i 0))
 
   pub record Passed (addresses-ok : Bool) (sum i : ℕ) : Type 0 where
     pub upto : i ≤ length lengths
-    pub right : true ≡ allBelow i lengthAt
+    pub right : true ≡ allBelow i (lengthAt lengths)
     pub addresses-is : addresses-ok ≡ allBelow i addressAt
     pub sum-is : sum ≡ startOf lengths i
     pub small : sum ≤ mostLength * i
@@ -34,20 +38,16 @@ module _ (addresses lengths : List ℕ) where
   pub first : Passed true 0 0
   first = record { upto = omega arith; right = all-none _; addresses-is = all-none _; sum-is = sym (start-zero lengths); small = omega arith }
 
-  pub next : {addresses-ok wrong : Bool} {sum i : ℕ} → Passed addresses-ok sum i → i < length lengths → lengthAt i ≡ true → wrong ≡ addressWrong (getD addresses i 0) (getD lengths i 0)
+  pub next : {addresses-ok wrong : Bool} {sum i : ℕ} → Passed addresses-ok sum i → i < length lengths → lengthAt lengths i ≡ true → wrong ≡ addressWrong (getD addresses i 0) (getD lengths i 0)
       → Passed (not wrong && addresses-ok) (sum + getD lengths i 0) (i + 1)
   next {addresses-ok} {wrong} {sum} {i} p l e f =
       record {
         upto = omega arith;
-        right = sym (and-both e refl) ∙ all-more lengthAt i (p .right);
+        right = sym (and-both e refl) ∙ all-more (lengthAt lengths) i (p .right);
         addresses-is = rw f (all-more addressAt i (p .addresses-is));
         sum-is = start-step lengths sum i (p .sum-is);
         small = omega (arith, within-is 1 mostLength (getD lengths i 0) e);
       }
-
-  -- a length that is wrong
-  pub stopped : (i : ℕ) → i < length lengths → lengthAt i ≡ false → false ≡ lengthsOk lengths
-  stopped i l e = sym (all-no lengthAt (length lengths) i l e)
 
   -- the count of the pieces
   pub walkable : (segmented : Bool) → eqb (length addresses) (length lengths) && within 1 (mostPiecesOf segmented) (length lengths) ≡ true → Walkable addresses lengths

@@ -6,15 +6,14 @@ use rules::address_wrong;
 use segments::crowded;
 use segments::header_within;
 ghost use mathlib.Core.Path.{_≡_};
-ghost use Prim.Native.Nat.{_≤_, _<_, _^_, min};
-ghost use lib.ListN.{length};
+ghost use Prim.Native.Nat.{_<_, _^_, min};
 ghost use Rattle.rules.specs.Rules.{answerOf, inSteps};
 ghost use Rattle.segments.specs.Touch.{total};
 ghost use Rattle.segments.specs.Steps.{sumLimit};
 ghost use Rattle.descriptor.specs.Words.{dataWord, contextWord};
 ghost use Rattle.offload.specs.Request.{iiptOf, l4tOf, dataOf, contextOf};
 ghost use Rattle.offload.specs.Steps.{Walkable, Looked, Totalled, Segmentable};
-ghost use Rattle.offload.specs.Offload.{mostPiecesOf, lengthsOk, totalOk, piecesOk, ipLengthOk, l4LengthOk, headersOk, tagOk, mssOk, segmentedOk, segmentationOk, requestOk, isOver, packetChecks};
+ghost use Rattle.offload.specs.Offload.{mostPiecesOf, lengthsOk, totalOk, piecesOk, ipLengthOk, l4LengthOk, headersOk, mssOk, segmentationOk, requestOk, isOver, packetChecks};
 
 const MOST_LENGTH: u64 = 16383;
 

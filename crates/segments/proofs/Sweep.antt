@@ -27,7 +27,7 @@ pub record Swept (ls : List ℕ) (header mss tlen head i end start : ℕ) : Type
   pub to : i + (mostTouched - head) ≤ length ls
   pub ends : header + end ≡ startOf ls (suc i)
   pub starts : header + start ≡ startOf ls (i + (mostTouched - head))
-  pub none : (k : ℕ) → k < i → head ≤ k → Window ls header mss tlen k (k + (mostTouched - head)) → ⊥
+  pub none : (k : ℕ) → k < i → head ≤ k → Window ls header mss k (k + (mostTouched - head)) → ⊥
 
 module _ {ls : List ℕ} {header mss tlen head : ℕ} where
   pub sweep-first : {e s : ℕ} → Checked ls header mss tlen → Headed ls header head → mostTouched ≤ length ls → e ≡ startOf ls (head + 1) → s ≡ startOf ls mostTouched
@@ -53,7 +53,7 @@ module _ {ls : List ℕ} {header mss tlen head : ℕ} where
       pub sweep-yes : s / mss * mss < e → isCrowded ls header mss tlen ≡ true
       sweep-yes t =
           yes-window ls header mss tlen head (w .ok) (w .hd) (w .long) i (w .from) more
-          (window-is ls header mss tlen i (i + (mostTouched - head)) e s (w .ends) (w .starts) .1 t)
+          (window-is ls header mss i (i + (mostTouched - head)) e s (w .ends) (w .starts) .1 t)
 
       -- the sums stay within the frame
       pub sweep-room : (e + getD ls (i + 1) 0 ≤ tlen) × (s + getD ls (i + (mostTouched - head)) 0 ≤ tlen)
@@ -82,5 +82,5 @@ module _ {ls : List ℕ} {header mss tlen head : ℕ} where
             to = omega arith;
             ends = rw add-one (omega (arith, start-next ls (suc i)));
             starts = rw over (omega (arith, start-next ls (i + (mostTouched - head))));
-            none = below-more _ i (w .none) (λ g v. omega (arith, window-is ls header mss tlen i (i + (mostTouched - head)) e s (w .ends) (w .starts) .0 v));
+            none = below-more _ i (w .none) (λ g v. omega (arith, window-is ls header mss i (i + (mostTouched - head)) e s (w .ends) (w .starts) .0 v));
           }

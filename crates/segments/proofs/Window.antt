@@ -14,7 +14,7 @@ use Rattle.segments.proofs.Count.{Band, Run, run-counted, counted-run}
 use Rattle.segments.proofs.Starts.{start-up, start-next, start-before}
 use Rattle.segments.proofs.Meaning.{touches-is, crowded-is, not-crowded}
 
-module _ (ls : List ℕ) (header mss tlen : ℕ) where
+module _ (ls : List ℕ) (header mss : ℕ) where
   -- the segment that holds the first byte of piece j begins before piece i ends
   abbrev pub Window : ℕ → ℕ → Type 0
   Window i j = (startOf ls j - header) / mss * mss < startOf ls (suc i) - header
@@ -52,7 +52,7 @@ module _ (ls : List ℕ) (header mss tlen head : ℕ) (ok : Checked ls header ms
           downward = λ i j g u. omega (arith, start-up ls j g);
         }
 
-  pub yes-window : (i : ℕ) → head ≤ i → i + (mostTouched - head) < length ls → Window ls header mss tlen i (i + (mostTouched - head)) → isCrowded ls header mss tlen ≡ true
+  pub yes-window : (i : ℕ) → head ≤ i → i + (mostTouched - head) < length ls → Window ls header mss i (i + (mostTouched - head)) → isCrowded ls header mss tlen ≡ true
   yes-window i g l w =
       let j = i + (mostTouched - head) in
       let k = (startOf ls j - header) / mss in
@@ -63,7 +63,7 @@ module _ (ls : List ℕ) (header mss tlen head : ℕ) (ok : Checked ls header ms
       let r : Run (Low k begins) (High k begins) head (mostTouched - head) (length ls) = record { i = i; from = g; to = l; low = omega arith; high = omega (arith, ok .whole) } in
       crowded-is ls header mss tlen .1 (k, begins, omega (arith, hd .few, run-counted _ _ _ head (length ls) (mostTouched - head) (band k begins) r))
 
-  pub no-window : ((i : ℕ) → head ≤ i → i + (mostTouched - head) < length ls → Window ls header mss tlen i (i + (mostTouched - head)) → ⊥) → isCrowded ls header mss tlen ≡ false
+  pub no-window : ((i : ℕ) → head ≤ i → i + (mostTouched - head) < length ls → Window ls header mss i (i + (mostTouched - head)) → ⊥) → isCrowded ls header mss tlen ≡ false
   no-window none =
       not-crowded ls header mss tlen (λ k begins many. by k begins (counted-run _ _ _ head (length ls) (mostTouched - head) (band k begins) (omega (arith, hd .few))))
     where

@@ -10,13 +10,13 @@ use native.Mathlib.Nat.{mod-add-mod}
 use native.Mathlib.Omega.{arith}
 use borrow.Author.Tests.{lt-ltb, eqb-true, ne-eqb}
 use lib.Dec.{eqb}
-use lib.ListN.{length, getD, set, length-set}
+use lib.ListN.{length, set, length-set}
 use lib.Seq.{getD-set-other}
 use Rattle.rules.specs.Rules.{within}
 use Rattle.rules.proofs.Tests.{both}
 use Rattle.ring.specs.Slots.{slotAt}
 use Rattle.ring.specs.Sizes.{queueOk, placeOk}
-use Rattle.ring.specs.Memory.{numbersAt, storeRun}
+use Rattle.ring.specs.Memory.{storeRun}
 use Rattle.ring.proofs.Lines.{size-least}
 use Rattle.ring.proofs.Steps.{slot-below, apart}
 use Rattle.ring.proofs.Rows.{row-length, row-other}

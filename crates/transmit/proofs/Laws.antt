@@ -14,7 +14,6 @@ use Rattle.rules.proofs.Checks.{passed}
 use Rattle.ring.specs.Sizes.{queueOk, placeOk}
 use Rattle.ring.proofs.Lines.{placed}
 use Rattle.offload.specs.declared.Request.{Request}
-use Rattle.offload.specs.Request.{slotsOf}
 use Rattle.offload.specs.Offload.{packetChecks}
 use Rattle.offload.specs.Accepted.{Accepted}
 use Rattle.offload.proofs.Accepted.{accepted}

@@ -8,7 +8,6 @@ use Rattle.offload.specs.declared.Request.{Request}
 use Rattle.transmit.specs.declared.TxQueue.{TxQueue}
 use Rattle.transmit.specs.declared.Fresh.{Fresh}
 use Rattle.transmit.specs.declared.Asked.{Asked}
-use Rattle.transmit.specs.declared.Sent.{Sent}
 use Rattle.transmit.specs.declared.Reclaimed.{Reclaimed}
 use Rattle.transmit.specs.Queue.{freshOf, tailValueOf, tailRegisterOf}
 use Rattle.transmit.specs.Send.{sendOf, ringAfter, tokensAfter, countsAfter, Outcome, Meets}

@@ -46,7 +46,7 @@ returns : tie.Need-returns Inv-loop μ-loop
 returns c =
     let s = c .before .before .before .before .before .before in
     record {
-      ok-is = stopped (s .args .addresses .now) (s .args .lengths .now) (c .before .before .before .loop .i) (omega arith) (c .if1 .left);
+      ok-is = stopped (s .args .lengths .now) (c .before .before .before .loop .i) (omega arith) (c .if1 .left);
       addresses-is = λ e. absurd (false≢true e);
       total-is = λ e. absurd (false≢true e);
     }
