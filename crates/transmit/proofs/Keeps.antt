@@ -29,8 +29,8 @@ use Rattle.transmit.specs.declared.Fresh.{Fresh}
 use Rattle.transmit.specs.declared.Sent.{Sent}
 use Rattle.transmit.specs.declared.Reclaimed.{Reclaimed}
 use Rattle.transmit.specs.Queue.{leastFrame, mostFrame, numbersOk, recordOk, lentOk, slotOf, tailOf, movedTo, emptyQueue, freshOf}
-use Rattle.transmit.specs.Send.{slotsTaken, answerTo, sendOf, ringAfter, tokensAfter, countsAfter, Unchanged, Stays}
-use Rattle.transmit.specs.Reclaim.{doneOf, countAt, tokenAt, reclaimAnswer, reclaimOf}
+use Rattle.transmit.specs.Send.{slotsTaken, sendDone, sendRefused, answerTo, sendOf, ringAfter, tokensAfter, countsAfter, Unchanged, Stays}
+use Rattle.transmit.specs.Reclaim.{reclaimDone, reclaimRefused, countAt, tokenAt, reclaimAnswer, reclaimOf}
 use Rattle.transmit.proofs.Laws.{kept, lent-record, lent-same, sendable}
 
 -- ---- accepted again
@@ -55,7 +55,7 @@ fresh-keeps queue size frame z = go (numbersOk queue size frame) refl z
 
 -- what a send gives back, by whether it is accepted
 abbrev given : TxQueue → ℕ → ℕ → Bool → Sent
-given q answer slots b = cond b (record { answer = 0; queue = movedTo q (q .head) (q .posted + slots); slots = slots }) (record { answer = answer; queue = q; slots = 0 })
+given q answer slots b = cond b (sendDone q slots) (sendRefused q answer)
 
 module _ (q : TxQueue) (ok : recordOk q ≡ true) where
   moved : (head posted : ℕ) → head < q .size → posted < q .size → recordOk (movedTo q head posted) ≡ true
@@ -87,7 +87,7 @@ module _ (q : TxQueue) (ok : recordOk q ≡ true) where
       count = countAt q counts
 
       given : Bool → Reclaimed
-      given b = cond b (doneOf q (tokenAt q tokens) count) (record { answer = answer; queue = q; token = 0; count = 0 })
+      given b = cond b (reclaimDone q (tokenAt q tokens) count) (reclaimRefused q answer)
 
       go : (b : Bool) → eqb answer 0 ≡ b → recordOk (given b .queue) ≡ true
       go true e = moved (slotOf q count) (q .posted - count) (slot-below (q .head) (q .size) count (omega (arith, kept q ok .place))) (omega (arith, kept q ok .place))
@@ -100,7 +100,7 @@ either-long false xs ys e = refl
 -- ---- a refused call
 
 pub reclaim-refused : (q : TxQueue) (ring tokens counts : List ℕ) → reclaimAnswer q ring tokens counts ≢ 0
-    → reclaimOf q ring tokens counts ≡ record { answer = reclaimAnswer q ring tokens counts; queue = q; token = 0; count = 0 }
+    → reclaimOf q ring tokens counts ≡ reclaimRefused q (reclaimAnswer q ring tokens counts)
 unfolding reclaimOf
 reclaim-refused q ring tokens counts ne = rw (ne-eqb (reclaimAnswer q ring tokens counts) 0 ne)
 

@@ -18,7 +18,7 @@ use Rattle.offload.proofs.Accepted.{slots-are}
 use Rattle.transmit.specs.declared.TxQueue.{TxQueue}
 use Rattle.transmit.specs.Queue.{lentOk, slotOf, tailOf, movedTo}
 use Rattle.transmit.specs.Send.{slotsTaken, answerTo, sendOf, tokensAfter, countsAfter}
-use Rattle.transmit.specs.Reclaim.{isMarked, doneOf, countAt, tokenAt, reclaimChecks, reclaimAnswer, reclaimOf}
+use Rattle.transmit.specs.Reclaim.{isMarked, reclaimDone, countAt, tokenAt, reclaimChecks, reclaimAnswer, reclaimOf}
 use Rattle.transmit.proofs.Laws.{Sendable, sendable}
 use Rattle.transmit.proofs.Keeps.{ring-long, send-lends}
 
@@ -26,7 +26,7 @@ use Rattle.transmit.proofs.Keeps.{ring-long, send-lends}
 module _ (q : TxQueue) (ring tokens counts : List ℕ) where
   pub reclaims : (count token : ℕ) → countAt q counts ≡ count → tokenAt q tokens ≡ token
       → lentOk q (length ring) (length tokens) (length counts) ≡ true → 1 ≤ count → count ≤ q .posted → isMarked ring (slotOf q (count - 1)) ≡ true
-      → reclaimOf q ring tokens counts ≡ doneOf q token count
+      → reclaimOf q ring tokens counts ≡ reclaimDone q token count
   unfolding reclaimOf reclaimAnswer
   reclaims count token c t l some most m =
       rw (eq-eqb (reclaimAnswer q ring tokens counts) 0 (passes (reclaimChecks q ring tokens counts) all-pass), c, t)
@@ -63,7 +63,7 @@ module _ (q : TxQueue) (ring tokens counts addresses lengths : List ℕ) (reques
       → getD tokens′ (tailOf q) 0 ≡ getD (tokensAfter q ring tokens counts addresses lengths request token) (tailOf q) 0
       → getD counts′ (tailOf q) 0 ≡ getD (countsAfter q ring tokens counts addresses lengths request) (tailOf q) 0
       → isMarked ring′ (slotOf q′ (slotsTaken request lengths - 1)) ≡ true
-      → reclaimOf q′ ring′ tokens′ counts′ ≡ doneOf q′ token (slotsTaken request lengths)
+      → reclaimOf q′ ring′ tokens′ counts′ ≡ reclaimDone q′ token (slotsTaken request lengths)
   sent-reclaimed token q′ ring′ tokens′ counts′ l h p t c m =
       reclaims q′ ring′ tokens′ counts′ (slotsTaken request lengths) token
       (ap (λ (s : ℕ). getD counts′ s 0) h ∙ c ∙ count-stored)

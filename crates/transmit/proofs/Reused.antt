@@ -13,7 +13,7 @@ use Rattle.offload.specs.declared.Request.{Request}
 use Rattle.transmit.specs.declared.TxQueue.{TxQueue}
 use Rattle.transmit.specs.declared.Reclaimed.{Reclaimed}
 use Rattle.transmit.specs.Send.{freeSlots, slotsTaken, sendAnswer}
-use Rattle.transmit.specs.Reclaim.{doneOf, countAt, tokenAt, reclaimAnswer, reclaimOf, Freed}
+use Rattle.transmit.specs.Reclaim.{reclaimDone, reclaimRefused, countAt, tokenAt, reclaimAnswer, reclaimOf, Freed}
 use Rattle.transmit.proofs.Laws.{lent-record, Reclaimable, reclaimable}
 use Rattle.transmit.proofs.Causes.{retry}
 use Rattle.transmit.proofs.Keeps.{reclaim-keeps}
@@ -27,7 +27,7 @@ module _ (q : TxQueue) (ring tokens counts : List ℕ) (done : reclaimOf q ring 
       answer = reclaimAnswer q ring tokens counts
 
       given : Bool → Reclaimed
-      given b = cond b (doneOf q (tokenAt q tokens) (countAt q counts)) (record { answer = answer; queue = q; token = 0; count = 0 })
+      given b = cond b (reclaimDone q (tokenAt q tokens) (countAt q counts)) (reclaimRefused q answer)
 
       go : (b : Bool) → eqb answer 0 ≡ b → given b .answer ≡ 0 → answer ≡ 0
       go true e z = eqb-true answer 0 e
@@ -36,7 +36,7 @@ module _ (q : TxQueue) (ring tokens counts : List ℕ) (done : reclaimOf q ring 
   facts : Reclaimable q ring tokens counts
   facts = reclaimable q ring tokens counts passes
 
-  is-done : reclaimOf q ring tokens counts ≡ doneOf q (tokenAt q tokens) (countAt q counts)
+  is-done : reclaimOf q ring tokens counts ≡ reclaimDone q (tokenAt q tokens) (countAt q counts)
   unfolding reclaimOf
   is-done = rw (eq-eqb (reclaimAnswer q ring tokens counts) 0 passes)
 

@@ -28,8 +28,12 @@ abbrev pub lastSlot : TxQueue → List ℕ → ℕ
 lastSlot q counts = slotOf q (countAt q counts - 1)
 
 -- done: token and count come back, and head moves on
-abbrev pub doneOf : TxQueue → ℕ → ℕ → Reclaimed
-doneOf q token count = record { answer = 0; queue = movedTo q (slotOf q count) (q .posted - count); token = token; count = count }
+abbrev pub reclaimDone : TxQueue → ℕ → ℕ → Reclaimed
+reclaimDone q token count = record { answer = 0; queue = movedTo q (slotOf q count) (q .posted - count); token = token; count = count }
+
+-- refused: the record as it came, and zeros
+abbrev pub reclaimRefused : TxQueue → ℕ → Reclaimed
+reclaimRefused q n = record { answer = n; queue = q; token = 0; count = 0 }
 
 module _ (q : TxQueue) (ring tokens counts : List ℕ) where
   -- 1 the record or a slice is wrong; 4 nothing posted; 5 a count of 0 or above posted; 4 the packet's last slot not marked
@@ -44,12 +48,9 @@ module _ (q : TxQueue) (ring tokens counts : List ℕ) where
   unfoldable pub reclaimAnswer : ℕ
   reclaimAnswer = answerOf reclaimChecks
 
-  -- a refusal gives the record as it came and zeros
+  -- all that reclaim returns; it borrows the lent memory and writes none of it
   unfoldable pub reclaimOf : Reclaimed
-  reclaimOf =
-      cond (eqb reclaimAnswer 0)
-      (doneOf q (tokenAt q tokens) (countAt q counts))
-      (record { answer = reclaimAnswer; queue = q; token = 0; count = 0 })
+  reclaimOf = cond (eqb reclaimAnswer 0) (reclaimDone q (tokenAt q tokens) (countAt q counts)) (reclaimRefused q reclaimAnswer)
 
 -- reclaimed slots can be used again: an accepted record of the same queue, with as many free slots more as came back
 pub record Freed (q : TxQueue) (r : Reclaimed) : Type 0 where

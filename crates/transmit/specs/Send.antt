@@ -34,17 +34,21 @@ unfoldable pub sendAnswer : TxQueue → ℕ → ℕ → ℕ → List ℕ → Lis
 sendAnswer q ringLength tokensLength countsLength addresses lengths request =
     answerOf (sendChecks q ringLength tokensLength countsLength addresses lengths request)
 
+-- done: posted grows by the slots
+abbrev pub sendDone : TxQueue → ℕ → Sent
+sendDone q slots = record { answer = 0; queue = movedTo q (q .head) (q .posted + slots); slots = slots }
+
+-- refused: the record as it came, and no slots
+abbrev pub sendRefused : TxQueue → ℕ → Sent
+sendRefused q n = record { answer = n; queue = q; slots = 0 }
+
 module _ (q : TxQueue) (ring tokens counts addresses lengths : List ℕ) (request : Request) where
   -- the answer, with these slices lent
   abbrev pub answerTo : ℕ
   answerTo = sendAnswer q (length ring) (length tokens) (length counts) addresses lengths request
 
-  -- posted grows by the slots; a refusal gives the record as it came and 0
   abbrev pub sendOf : Sent
-  sendOf =
-      cond (eqb answerTo 0)
-      (record { answer = 0; queue = movedTo q (q .head) (q .posted + slotsTaken request lengths); slots = slotsTaken request lengths })
-      (record { answer = answerTo; queue = q; slots = 0 })
+  sendOf = cond (eqb answerTo 0) (sendDone q (slotsTaken request lengths)) (sendRefused q answerTo)
 
   -- the descriptors from the tail upward, the token and the slot count at the packet's first slot; all other places stay
   abbrev pub ringAfter : List ℕ
@@ -64,9 +68,9 @@ module _ (q : TxQueue) (ring tokens counts addresses lengths : List ℕ) (reques
     pub tokens-is : tokens′ ≡ tokensAfter token
     pub counts-is : counts′ ≡ countsAfter
 
-  -- a refused send: the record as it came and no slots, and no change in lent memory
+  -- a refused send: the record as it came, no slots, and no change in lent memory
   pub record Unchanged (token : ℕ) : Type 0 where
-    pub result-is : sendOf ≡ record { answer = answerTo; queue = q; slots = 0 }
+    pub result-is : sendOf ≡ sendRefused q answerTo
     pub ring-same : ringAfter ≡ ring
     pub tokens-same : tokensAfter token ≡ tokens
     pub counts-same : countsAfter ≡ counts
