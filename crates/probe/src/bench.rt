@@ -1,62 +1,68 @@
 // The bench: both queues, and the calls that the lines of a script ask for.
-use crate::form::Said;
-use crate::receiving;
-use crate::receiving::Rx;
-use crate::sending;
-use crate::sending::Tx;
-use crate::vector;
+use crate::interrupts;
 use command::Command;
-use row::put_row;
+use forms::Said;
+use receive_lines::Rx;
+use script::GIVEN;
+use script::NUMBERS;
+use script::RING;
+use script::Row;
+use script::SLOTS;
+use script::no_row;
+use send_lines::Tx;
 
-// Both queues, and the place behind what was printed.
+// Both queues, and the numbers of the last answer.
 pub(crate) struct Bench {
     pub(crate) rx: Rx,
     pub(crate) tx: Tx,
-    pub(crate) next: usize,
+    pub(crate) row: Row,
 }
 
 pub(crate) fn start() -> Bench {
-    let rx = receiving::none();
-    let tx = sending::none();
-    Bench { rx, tx, next: 0 }
+    Bench {
+        rx: receive_lines::none(),
+        tx: send_lines::none(),
+        row: no_row(),
+    }
 }
 
-// An interrupt word, and the answer to a line that is of no form.
-fn other_line(said: Said, number: u64, numbers: &[u64], out: &mut [u8], next: usize) -> usize {
-    if said.bad {
-        let row = [number];
-        return put_row(out, next, b"bad", &row, 1);
-    }
-    let command = said.command;
+// An interrupt word, where one is asked for.
+fn other_line(command: Command, given: [u64; GIVEN]) -> Row {
     match command {
-        Command::Int => vector::word(numbers, out, next),
-        _ => next,
+        Command::Int => interrupts::word(given),
+        _ => no_row(),
     }
 }
 
-// What a line says, with its number in the script: at most one of the three has an answer.
+// The row that has numbers; at most one of two has.
+fn either(a: Row, b: Row) -> Row {
+    if 0 < a.count { a } else { b }
+}
+
+// What a line says: at most one of the three has an answer.
 pub(crate) fn call(
     said: Said,
-    number: u64,
     bench: Bench,
-    next: usize,
-    numbers: &[u64],
-    rx_ring: &mut [u64],
-    rx_list: &mut [u64],
-    tx_ring: &mut [u64],
-    tokens: &mut [u64],
-    counts: &mut [u16],
-    out: &mut [u8],
+    numbers: &[u64; NUMBERS],
+    rx_ring: &mut [u64; RING],
+    rx_list: &mut [u64; SLOTS],
+    tx_ring: &mut [u64; RING],
+    tokens: &mut [u64; SLOTS],
+    counts: &mut [u16; SLOTS],
 ) -> Bench {
     let command = said.command;
+    let given = said.given;
     let rx = bench.rx;
     let tx = bench.tx;
-    let received = receiving::line(command, rx, numbers, rx_ring, rx_list, out, next);
-    let next = received.next;
-    let passed = sending::line(command, tx, numbers, tx_ring, tokens, counts, out, next);
-    let next = passed.next;
-    let next = other_line(said, number, numbers, out, next);
+    let received = receive_lines::line(command, given, rx, rx_ring, rx_list);
+    let passed = send_lines::line(command, given, numbers, tx, tx_ring, tokens, counts);
     let rx = received.rx;
     let tx = passed.tx;
-    Bench { rx, tx, next }
+    let received = received.row;
+    let passed = passed.row;
+    Bench {
+        rx,
+        tx,
+        row: either(either(received, passed), other_line(command, given)),
+    }
 }

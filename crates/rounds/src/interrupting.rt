@@ -1,8 +1,8 @@
 // Interrupt words.
-use crate::checksum;
 use interrupt::Answer;
 use interrupt::Enable;
 use interrupt::Request;
+use measure::checksum;
 
 // Half of the requests ask for on, a quarter for off, a quarter for leave.
 fn enable(i: u64) -> Enable {

@@ -1,0 +1,158 @@
+// The forms of a line: how many numbers stand behind a command, and which are in range. A part of the program `probe`: what it prints is
+// compared.
+use command::Command;
+use command::command_of;
+use feed::Line;
+use script::GIVEN;
+use script::NUMBERS;
+use script::RING;
+use script::SLOTS;
+use script::wide;
+use words::is_silent;
+use words::numbers_behind;
+use words::word_end;
+
+// What a line says: a command whose numbers are as they should be, or nothing; its first numbers; and whether it is of no form.
+pub struct Said {
+    pub command: Command,
+    pub given: [u64; GIVEN],
+    pub bad: bool,
+}
+
+// The highest kind of IP or L4, and the highest slot count.
+const MOST_KIND: u64 = 3;
+
+const MOST_COUNT: u64 = 65535;
+
+// The highest number for what becomes of the enable bit.
+const MOST_ENABLE: u64 = 2;
+
+// The place behind so many addresses and lengths.
+fn pieces_end(addresses: u64, lengths: u64) -> u64 {
+    let end = std::num::wrapping_add_u64(addresses, lengths);
+    std::num::wrapping_add_u64(GIVEN as u64, end)
+}
+
+// How many numbers a command has, where it is one; only a send says it itself.
+fn count_of(command: Command, given: [u64; GIVEN]) -> u64 {
+    match command {
+        Command::Rx => 3,
+        Command::RxSet => 7,
+        Command::RxPoke => 2,
+        Command::RxList => 2,
+        Command::Post => 1,
+        Command::Tx => 3,
+        Command::TxSet => 8,
+        Command::TxPoke => 2,
+        Command::TxToken => 2,
+        Command::TxCount => 2,
+        Command::Send => pieces_end(given[11], given[12]),
+        Command::Int => 8,
+        _ => 0,
+    }
+}
+
+fn is_txset(given: [u64; GIVEN]) -> bool {
+    (given[5] <= RING as u64) & (given[6] <= SLOTS as u64) & (given[7] <= SLOTS as u64)
+}
+
+fn is_send(given: [u64; GIVEN]) -> bool {
+    (given[11] <= SLOTS as u64)
+        & (given[12] <= SLOTS as u64)
+        & (given[1] <= MOST_KIND)
+        & (given[2] <= MOST_KIND)
+        & (given[6] <= 1)
+        & (given[8] <= 1)
+}
+
+fn is_int(given: [u64; GIVEN]) -> bool {
+    (given[1] <= MOST_ENABLE) & (given[2] <= 1) & (given[3] <= 1) & (given[4] <= 1)
+}
+
+// Whether the numbers behind a command are in range.
+fn in_range(command: Command, given: [u64; GIVEN]) -> bool {
+    match command {
+        Command::Unknown => false,
+        Command::RxSet => (given[5] <= RING as u64) & (given[6] <= SLOTS as u64),
+        Command::RxPoke => given[0] < RING as u64,
+        Command::RxList => given[0] < SLOTS as u64,
+        Command::TxSet => is_txset(given),
+        Command::TxPoke => given[0] < RING as u64,
+        Command::TxToken => given[0] < SLOTS as u64,
+        Command::TxCount => (given[0] < SLOTS as u64) & (given[1] <= MOST_COUNT),
+        Command::Send => is_send(given),
+        Command::Int => is_int(given),
+        _ => true,
+    }
+}
+
+fn nothing(bad: bool) -> Said {
+    Said {
+        command: Command::Unknown,
+        given: [0; GIVEN],
+        bad,
+    }
+}
+
+fn formed(command: Command, given: [u64; GIVEN], count: u64) -> Said {
+    if (count == count_of(command, given)) & in_range(command, given) {
+        Said {
+            command,
+            given,
+            bad: false,
+        }
+    } else {
+        nothing(true)
+    }
+}
+
+fn first_numbers(n: &[u64; NUMBERS]) -> [u64; GIVEN] {
+    [
+        n[0],
+        n[1],
+        n[2],
+        n[3],
+        n[4],
+        n[5],
+        n[6],
+        n[7],
+        n[8],
+        n[9],
+        n[10],
+        n[11],
+        n[12],
+    ]
+}
+
+// A line that is neither empty nor a comment.
+fn read_words(words: &[u8], numbers: &mut [u64; NUMBERS]) -> Said {
+    let end = word_end(words, 0);
+    let command = command_of(feed::first(words, end));
+    let read = numbers_behind(words, end, numbers);
+    if read.ok {
+        formed(command, first_numbers(numbers), wide(read.count))
+    } else {
+        nothing(true)
+    }
+}
+
+fn read_line(words: &[u8], numbers: &mut [u64; NUMBERS]) -> Said {
+    if is_silent(words) {
+        nothing(false)
+    } else {
+        read_words(words, numbers)
+    }
+}
+
+// What a line says, where one was found; its numbers are put into `numbers`.
+pub fn hear(line: Line, text: &[u8], numbers: &mut [u64; NUMBERS]) -> Said {
+    if line.found {
+        if line.long {
+            nothing(true)
+        } else {
+            read_line(feed::part(text, line.from, line.to), numbers)
+        }
+    } else {
+        nothing(false)
+    }
+}

@@ -1,0 +1,70 @@
+// One number over all that a take hands up.
+use measure::checksum::byte;
+use measure::checksum::mix;
+use measure::checksum::number;
+use receive::Packet;
+use receive::Taken;
+use writeback::Family;
+use writeback::WriteBack;
+
+fn half(sum: u64, x: u16) -> u64 {
+    mix(sum, x as u64)
+}
+
+fn whole(sum: u64, x: u32) -> u64 {
+    mix(sum, x as u64)
+}
+
+fn flag(sum: u64, x: bool) -> u64 {
+    mix(sum, x as u64)
+}
+
+fn family_number(family: Family) -> u64 {
+    match family {
+        Family::Unknown => 0,
+        Family::Mac => 1,
+        Family::Arp => 2,
+        Family::Ipv4 => 3,
+        Family::Ipv6 => 4,
+    }
+}
+
+fn addresses(sum: u64, a: [u64; 5]) -> u64 {
+    mix(mix(mix(mix(mix(sum, a[0]), a[1]), a[2]), a[3]), a[4])
+}
+
+fn lengths(sum: u64, a: [usize; 5]) -> u64 {
+    number(
+        number(number(number(number(sum, a[0]), a[1]), a[2]), a[3]),
+        a[4],
+    )
+}
+
+fn flags(sum: u64, w: WriteBack) -> u64 {
+    let a = flag(flag(flag(flag(sum, w.dd), w.eop), w.l2tag1p), w.l3l4p);
+    let b = flag(
+        flag(flag(flag(a, w.crcp), w.lpbk), w.ipv6exadd),
+        w.int_udp_0,
+    );
+    flag(flag(flag(b, w.ipe), w.l4e), w.oversize)
+}
+
+fn write_back(sum: u64, w: WriteBack) -> u64 {
+    let family = w.family;
+    let a = whole(half(flags(sum, w), w.tag), w.hash);
+    let b = byte(byte(byte(a, w.umbcast), w.fltstat), w.ptype);
+    mix(number(b, w.length), family_number(family))
+}
+
+fn packet(sum: u64, p: Packet) -> u64 {
+    let a = p.addresses;
+    let l = p.lengths;
+    let w = p.last;
+    let s = number(number(sum, p.count), p.total);
+    write_back(lengths(addresses(s, a), l), w)
+}
+
+pub(crate) fn taken(sum: u64, t: Taken) -> u64 {
+    let p = t.packet;
+    packet(byte(sum, t.answer), p)
+}
