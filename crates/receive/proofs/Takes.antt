@@ -1,4 +1,4 @@
--- What take hands up: exactly the first of the posted slots that make a packet as the device's rules have it.
+-- What take gives back: zeros beside a refusal, and else exactly the first of the posted slots that make a packet as the device's rules have it.
 -- Assumes nothing.
 use Prim.Native.Nat.{ℕ, suc, _+_, _≤_, _<_}
 use mathlib.Core.Path.{_≡_, refl, ap, _∙_}
@@ -149,7 +149,7 @@ module _ (q : RxQueue) (ring list : List ℕ) where
   hands-up z = by-look (lentOk q (length ring) (length list)) (scan (q .buffer) 0 slots) refl refl z
 
   -- and it hands up whenever the posted slots begin with a packet
-  pub hands-up-if : (p rest : List Slot) → lentOk q (length ring) (length list) ≡ true → Complete (q .buffer) 0 p → slots ≡ p ++ rest
+  pub hands-up-if : (p rest : List Slot) → lentOk q (length ring) (length list) ≡ true → Complete (q .buffer) 0 p → postedSlots q ring list ≡ p ++ rest
       → takeOf q ring list ≡ record { answer = 0; queue = advanced q (length p); packet = packetOf p }
   unfolding takeOf look takeBy
   hands-up-if p rest a c e = rw (a, e, is-seen (q .buffer) 0 p rest c)
