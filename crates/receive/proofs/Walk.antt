@@ -172,7 +172,7 @@ module _ (q : RxQueue) (ring list addresses lengths : List ℕ) (total k : ℕ) 
           addresses-are = addresses-more;
           lengths-are = lengths-more;
           total-is = total-more;
-          total-small = omega (arith, w .total-small, mod-lt (here .words .word1 / 2 ^ lengthPlace .at) {m = 2 ^ lengthPlace .width} (omega arith));
+          total-small = omega (arith, w .total-small, mod-lt (here .words .word1 / 2 ^ lengthPlace 0 .at) {m = 2 ^ lengthPlace 0 .width} (omega arith));
         }
 
     -- the packet is complete

@@ -10,11 +10,11 @@ use native.Mathlib.Omega.{arith}
 use lib.Dec.{T, leb, ltb, leb→le, le→leb, ltb→lt}
 use lib.ListN.{length, set}
 use mir.Facts.{and-yes, or-yes}
-use Rattle.field.specs.Field.{replaced, Part, rising, apart, free}
+use Rattle.field.specs.Field.{replaced, Part, nth, rising, apart, free}
 use Rattle.field.proofs.Laws.{replaced-same, replaced-apart}
 use Rattle.writeback.specs.Places.{places0, places1}
 use Rattle.writeback.specs.WriteBack.{Words, writeBackOf}
-use Rattle.writeback.specs.Bits.{readsAt, nth, putAt, made}
+use Rattle.writeback.specs.Bits.{readsAt, putAt, made}
 
 -- ---- a table's places, and a word with one field replaced
 

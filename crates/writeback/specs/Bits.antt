@@ -5,19 +5,15 @@ use mathlib.Core.Bool.{Bool, cond}
 use mathlib.Core.List.{List, map}
 use lib.Dec.{eqb}
 use lib.ListN.{getD}
-use Rattle.field.specs.Field.{Part, replaced}
+use Rattle.field.specs.Field.{fieldOf, Part, nth, replaced}
 use Rattle.writeback.specs.declared.WriteBack.{WriteBack}
-use Rattle.writeback.specs.Places.{place, readAt}
 use Rattle.writeback.specs.WriteBack.{familyOf}
 
 -- the numbers that a word has at its places
 abbrev pub readsAt : List Part → ℕ → List ℕ
-readsAt ps w = map (λ (p : Part). readAt p w) ps
+readsAt ps w = map (λ (p : Part). fieldOf (p .at) (p .width) w) ps
 
--- place i of them, and a word with a value's low bits put there
-abbrev pub nth : List Part → ℕ → Part
-nth ps i = getD ps i (place 0 0)
-
+-- a word with a value's low bits put at place i of them
 abbrev pub putAt : List Part → ℕ → ℕ → ℕ → ℕ
 putAt ps i v w = replaced (nth ps i .at) (nth ps i .width) v w
 

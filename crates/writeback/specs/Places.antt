@@ -1,98 +1,86 @@
--- The places of a write-back's words by name (01, "Receiving"), each a position and a width. Every other bit is reserved.
+-- The places of a write-back's words by name (01, "Receiving"), each a line of the word. Every other bit is reserved.
 -- Assumes nothing.
 use Prim.Native.Nat.{ℕ, _+_}
-use mathlib.Core.Bool.{Bool}
 use mathlib.Core.List.{List, [], _∷_}
-use lib.Dec.{eqb}
-use Rattle.field.specs.Field.{fieldOf, Part, part}
-
-abbrev pub place : ℕ → ℕ → Part
-place at width = part at width 0
+use Rattle.field.specs.Field.{Part, part, Line}
 
 -- word 0: L2TAG1 in 31:16, filter status in 63:32
-abbrev pub l2tag1Place : Part
-l2tag1Place = place 16 16
+abbrev pub l2tag1Place : Line
+l2tag1Place v = part 16 16 v
 
-abbrev pub filterPlace : Part
-filterPlace = place 32 32
+abbrev pub filterPlace : Line
+filterPlace v = part 32 32 v
 
 -- word 1, status in 18:0
-abbrev pub ddPlace : Part
-ddPlace = place 0 1
+abbrev pub ddPlace : Line
+ddPlace v = part 0 1 v
 
-abbrev pub eopPlace : Part
-eopPlace = place 1 1
+abbrev pub eopPlace : Line
+eopPlace v = part 1 1 v
 
-abbrev pub l2tag1pPlace : Part
-l2tag1pPlace = place 2 1
+abbrev pub l2tag1pPlace : Line
+l2tag1pPlace v = part 2 1 v
 
-abbrev pub l3l4pPlace : Part
-l3l4pPlace = place 3 1
+abbrev pub l3l4pPlace : Line
+l3l4pPlace v = part 3 1 v
 
-abbrev pub crcpPlace : Part
-crcpPlace = place 4 1
+abbrev pub crcpPlace : Line
+crcpPlace v = part 4 1 v
 
-abbrev pub umbcastPlace : Part
-umbcastPlace = place 9 2
+abbrev pub umbcastPlace : Line
+umbcastPlace v = part 9 2 v
 
-abbrev pub fltstatPlace : Part
-fltstatPlace = place 12 2
+abbrev pub fltstatPlace : Line
+fltstatPlace v = part 12 2 v
 
-abbrev pub lpbkPlace : Part
-lpbkPlace = place 14 1
+abbrev pub lpbkPlace : Line
+lpbkPlace v = part 14 1 v
 
-abbrev pub ipv6exaddPlace : Part
-ipv6exaddPlace = place 15 1
+abbrev pub ipv6exaddPlace : Line
+ipv6exaddPlace v = part 15 1 v
 
-abbrev pub intUdp0Place : Part
-intUdp0Place = place 18 1
+abbrev pub intUdp0Place : Line
+intUdp0Place v = part 18 1 v
 
 -- error in 26:19, its bits counted within their field
-abbrev pub errorBit : ℕ → Part
-errorBit n = place (19 + n) 1
+abbrev pub errorBit : ℕ → Line
+errorBit n v = part (19 + n) 1 v
 
-abbrev pub ipePlace : Part
+abbrev pub ipePlace : Line
 ipePlace = errorBit 3
 
-abbrev pub l4ePlace : Part
+abbrev pub l4ePlace : Line
 l4ePlace = errorBit 4
 
-abbrev pub oversizePlace : Part
+abbrev pub oversizePlace : Line
 oversizePlace = errorBit 6
 
 -- packet type in 37:30, length in 51:38
-abbrev pub ptypePlace : Part
-ptypePlace = place 30 8
+abbrev pub ptypePlace : Line
+ptypePlace v = part 30 8 v
 
-abbrev pub lengthPlace : Part
-lengthPlace = place 38 14
-
--- the number that a word has at a place, and whether a bit is set there
-abbrev pub readAt : Part → ℕ → ℕ
-readAt p w = fieldOf (p .at) (p .width) w
-
-abbrev pub isSet : Part → ℕ → Bool
-isSet p w = eqb (readAt p w) 1
+abbrev pub lengthPlace : Line
+lengthPlace v = part 38 14 v
 
 -- all places of word 0 and of word 1
 abbrev pub places0 : List Part
-places0 = l2tag1Place ∷ filterPlace ∷ []
+places0 = l2tag1Place 0 ∷ filterPlace 0 ∷ []
 
 abbrev pub places1 : List Part
 places1 =
-    ddPlace
-    ∷ eopPlace
-    ∷ l2tag1pPlace
-    ∷ l3l4pPlace
-    ∷ crcpPlace
-    ∷ umbcastPlace
-    ∷ fltstatPlace
-    ∷ lpbkPlace
-    ∷ ipv6exaddPlace
-    ∷ intUdp0Place
-    ∷ ipePlace
-    ∷ l4ePlace
-    ∷ oversizePlace
-    ∷ ptypePlace
-    ∷ lengthPlace
+    ddPlace 0
+    ∷ eopPlace 0
+    ∷ l2tag1pPlace 0
+    ∷ l3l4pPlace 0
+    ∷ crcpPlace 0
+    ∷ umbcastPlace 0
+    ∷ fltstatPlace 0
+    ∷ lpbkPlace 0
+    ∷ ipv6exaddPlace 0
+    ∷ intUdp0Place 0
+    ∷ ipePlace 0
+    ∷ l4ePlace 0
+    ∷ oversizePlace 0
+    ∷ ptypePlace 0
+    ∷ lengthPlace 0
     ∷ []

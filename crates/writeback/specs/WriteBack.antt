@@ -4,10 +4,11 @@ use Prim.Native.Nat.{ℕ}
 use mathlib.Core.Bool.{Bool, false, _||_, cond}
 use lib.Dec.{eqb}
 use Rattle.rules.specs.Rules.{within}
+use Rattle.field.specs.Field.{readAt, isSet}
 use Rattle.writeback.specs.declared.Family.{Family}
 use Rattle.writeback.specs.declared.Family.the-variants.{Unknown, Mac, Arp, Ipv4, Ipv6}
 use Rattle.writeback.specs.declared.WriteBack.{WriteBack}
-use Rattle.writeback.specs.Places.{l2tag1Place, filterPlace, ddPlace, eopPlace, l2tag1pPlace, l3l4pPlace, crcpPlace, umbcastPlace, fltstatPlace, lpbkPlace, ipv6exaddPlace, intUdp0Place, ipePlace, l4ePlace, oversizePlace, ptypePlace, lengthPlace, readAt, isSet}
+use Rattle.writeback.specs.Places.{l2tag1Place, filterPlace, ddPlace, eopPlace, l2tag1pPlace, l3l4pPlace, crcpPlace, umbcastPlace, fltstatPlace, lpbkPlace, ipv6exaddPlace, intUdp0Place, ipePlace, l4ePlace, oversizePlace, ptypePlace, lengthPlace}
 
 -- the two words of a descriptor
 pub record Words : Type 0 where

@@ -1,6 +1,7 @@
 // The reader of one write-back: what the device wrote to a received slot, field for field.
 ghost use mathlib.Core.Path.{_≡_};
-ghost use Rattle.writeback.specs.Places.{ddPlace, eopPlace, lengthPlace, readAt, isSet};
+ghost use Rattle.field.specs.Field.{readAt, isSet};
+ghost use Rattle.writeback.specs.Places.{ddPlace, eopPlace, lengthPlace};
 ghost use Rattle.writeback.specs.WriteBack.{familyOf, familyNumber, tagOf, hashOf, writeBackOf};
 
 // The family of a packet type number.
