@@ -2,22 +2,24 @@
 # A script that takes this file in has set `part` to what it is doing, in plain words, and goes no further where it cannot be read to its end:
 #     . tools/common.sh && common_is_whole || { echo "FAILED in: reading tools/common.sh"; exit 1; }
 
+judging='' edits='' # whatever the environment has
+
 # fail [WORDS]: ends the script, and says in what it failed
 fail() {
     failed=$part${*:+: $*}
-    [ -n "${judging:-}" ] || printf '%s\n' "$0: FAILED in: $failed" >&2
+    [ -n "$judging" ] || printf '%s\n' "$0: FAILED in: $failed" >&2
     exit 1
 }
 
 # A script that judges calls `judge` first. However it then ends, its last line on standard output is $verdict if that was set and nothing failed,
 # and else says in what it failed. It may keep its files in $room, which goes with it.
 judge() {
-    judging=1 verdict='' failed=''
+    judging=1 verdict='' failed='' room=''
     trap judged EXIT
 }
 judged() {
     local status=$?
-    [ -z "${room:-}" ] || rm -rf "$room"
+    [ -z "$room" ] || rm -rf "$room"
     if [ "$status" -eq 0 ] && [ -n "$verdict" ] && printf '%s\n' "$verdict"; then exit 0; fi
     printf '%s\n' "FAILED in: ${failed:-$part}"
     [ "$status" -ne 0 ] || status=1
