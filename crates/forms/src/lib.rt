@@ -4,10 +4,10 @@ use command::Command;
 use command::command_of;
 use feed::Line;
 use script::GIVEN;
+use script::Given;
 use script::NUMBERS;
 use script::RING;
 use script::SLOTS;
-use script::wide;
 use words::is_silent;
 use words::numbers_behind;
 use words::word_end;
@@ -15,7 +15,7 @@ use words::word_end;
 // What a line says: a command whose numbers are as they should be, or nothing; its first numbers; and whether it is of no form.
 pub struct Said {
     pub command: Command,
-    pub given: [u64; GIVEN],
+    pub given: Given,
     pub bad: bool,
 }
 
@@ -34,7 +34,7 @@ fn pieces_end(addresses: u64, lengths: u64) -> u64 {
 }
 
 // How many numbers a command has, where it is one; only a send says it itself.
-fn count_of(command: Command, given: [u64; GIVEN]) -> u64 {
+fn count_of(command: Command, given: Given) -> u64 {
     match command {
         Command::Rx => 3,
         Command::RxSet => 7,
@@ -46,40 +46,40 @@ fn count_of(command: Command, given: [u64; GIVEN]) -> u64 {
         Command::TxPoke => 2,
         Command::TxToken => 2,
         Command::TxCount => 2,
-        Command::Send => pieces_end(given[11], given[12]),
+        Command::Send => pieces_end(given.n11, given.n12),
         Command::Int => 8,
         _ => 0,
     }
 }
 
-fn is_txset(given: [u64; GIVEN]) -> bool {
-    (given[5] <= RING as u64) & (given[6] <= SLOTS as u64) & (given[7] <= SLOTS as u64)
+fn is_txset(given: Given) -> bool {
+    (given.n5 <= RING as u64) & (given.n6 <= SLOTS as u64) & (given.n7 <= SLOTS as u64)
 }
 
-fn is_send(given: [u64; GIVEN]) -> bool {
-    (given[11] <= SLOTS as u64)
-        & (given[12] <= SLOTS as u64)
-        & (given[1] <= MOST_KIND)
-        & (given[2] <= MOST_KIND)
-        & (given[6] <= 1)
-        & (given[8] <= 1)
+fn is_send(given: Given) -> bool {
+    (given.n11 <= SLOTS as u64)
+        & (given.n12 <= SLOTS as u64)
+        & (given.n1 <= MOST_KIND)
+        & (given.n2 <= MOST_KIND)
+        & (given.n6 <= 1)
+        & (given.n8 <= 1)
 }
 
-fn is_int(given: [u64; GIVEN]) -> bool {
-    (given[1] <= MOST_ENABLE) & (given[2] <= 1) & (given[3] <= 1) & (given[4] <= 1)
+fn is_int(given: Given) -> bool {
+    (given.n1 <= MOST_ENABLE) & (given.n2 <= 1) & (given.n3 <= 1) & (given.n4 <= 1)
 }
 
 // Whether the numbers behind a command are in range.
-fn in_range(command: Command, given: [u64; GIVEN]) -> bool {
+fn in_range(command: Command, given: Given) -> bool {
     match command {
         Command::Unknown => false,
-        Command::RxSet => (given[5] <= RING as u64) & (given[6] <= SLOTS as u64),
-        Command::RxPoke => given[0] < RING as u64,
-        Command::RxList => given[0] < SLOTS as u64,
+        Command::RxSet => (given.n5 <= RING as u64) & (given.n6 <= SLOTS as u64),
+        Command::RxPoke => given.n0 < RING as u64,
+        Command::RxList => given.n0 < SLOTS as u64,
         Command::TxSet => is_txset(given),
-        Command::TxPoke => given[0] < RING as u64,
-        Command::TxToken => given[0] < SLOTS as u64,
-        Command::TxCount => (given[0] < SLOTS as u64) & (given[1] <= MOST_COUNT),
+        Command::TxPoke => given.n0 < RING as u64,
+        Command::TxToken => given.n0 < SLOTS as u64,
+        Command::TxCount => (given.n0 < SLOTS as u64) & (given.n1 <= MOST_COUNT),
         Command::Send => is_send(given),
         Command::Int => is_int(given),
         _ => true,
@@ -89,12 +89,30 @@ fn in_range(command: Command, given: [u64; GIVEN]) -> bool {
 fn nothing(bad: bool) -> Said {
     Said {
         command: Command::Unknown,
-        given: [0; GIVEN],
+        given: no_numbers(),
         bad,
     }
 }
 
-fn formed(command: Command, given: [u64; GIVEN], count: u64) -> Said {
+fn no_numbers() -> Given {
+    Given {
+        n0: 0,
+        n1: 0,
+        n2: 0,
+        n3: 0,
+        n4: 0,
+        n5: 0,
+        n6: 0,
+        n7: 0,
+        n8: 0,
+        n9: 0,
+        n10: 0,
+        n11: 0,
+        n12: 0,
+    }
+}
+
+fn formed(command: Command, given: Given, count: u64) -> Said {
     if (count == count_of(command, given)) & in_range(command, given) {
         Said {
             command,
@@ -106,22 +124,22 @@ fn formed(command: Command, given: [u64; GIVEN], count: u64) -> Said {
     }
 }
 
-fn first_numbers(n: &[u64; NUMBERS]) -> [u64; GIVEN] {
-    [
-        n[0],
-        n[1],
-        n[2],
-        n[3],
-        n[4],
-        n[5],
-        n[6],
-        n[7],
-        n[8],
-        n[9],
-        n[10],
-        n[11],
-        n[12],
-    ]
+fn first_numbers(n: &[u64; NUMBERS]) -> Given {
+    Given {
+        n0: n[0],
+        n1: n[1],
+        n2: n[2],
+        n3: n[3],
+        n4: n[4],
+        n5: n[5],
+        n6: n[6],
+        n7: n[7],
+        n8: n[8],
+        n9: n[9],
+        n10: n[10],
+        n11: n[11],
+        n12: n[12],
+    }
 }
 
 // A line that is neither empty nor a comment.
@@ -130,7 +148,7 @@ fn read_words(words: &[u8], numbers: &mut [u64; NUMBERS]) -> Said {
     let command = command_of(feed::first(words, end));
     let read = numbers_behind(words, end, numbers);
     if read.ok {
-        formed(command, first_numbers(numbers), wide(read.count))
+        formed(command, first_numbers(numbers), read.count as u64)
     } else {
         nothing(true)
     }

@@ -1,11 +1,9 @@
 // The script bench: reads a script on standard input, makes its calls on queues held in memory, and
 // prints one line a call.
-mod bench;
-mod interrupts;
 mod printing;
 mod reading;
 
-use bench::Bench;
+use calls::Bench;
 use feed::Line;
 use forms::Said;
 use printing::PRINTED;
@@ -32,20 +30,20 @@ struct State {
 fn start() -> State {
     State {
         reading: reading::start(),
-        bench: bench::start(),
+        bench: calls::start(),
         next: 0,
     }
 }
 
 // What the next line says, where the memory holds one, or one read.
 fn listen(
-    reading: Reading,
+    state: State,
     text: &mut [u8; TEXT],
     numbers: &mut [u64; NUMBERS],
     out: &[u8; PRINTED],
-    next: usize,
 ) -> Heard {
-    let turn = reading::take_turn(reading, text, out, next);
+    let reading = state.reading;
+    let turn = reading::take_turn(reading, text, out, state.next);
     let line = turn.line;
     let reading = turn.reading;
     let said = forms::hear(line, text, numbers);
@@ -87,11 +85,10 @@ fn step(
     counts: &mut [u16; SLOTS],
     out: &mut [u8; PRINTED],
 ) -> State {
-    let reading = state.reading;
-    let bench = state.bench;
-    let heard = listen(reading, text, numbers, out, state.next);
+    let heard = listen(state, text, numbers, out);
     let said = heard.said;
-    let bench = bench::call(
+    let bench = state.bench;
+    let bench = calls::call(
         said,
         bench,
         numbers,

@@ -6,17 +6,15 @@ use receive::Packet;
 use receive::Posted;
 use receive::RxQueue;
 use receive::Taken;
-use script::GIVEN;
+use script::Given;
 use script::LONGEST;
 use script::RING;
 use script::Row;
 use script::SLOTS;
 use script::lent;
 use script::no_row;
-use script::place;
 use script::poke;
 use script::row_of;
-use script::wide;
 use sum::sum_of;
 use writeback::Family;
 use writeback::WriteBack;
@@ -33,23 +31,31 @@ pub struct Received {
     pub row: Row,
 }
 
+fn record(queue: u64, size: u64, head: u64, posted: u64, buffer: u64) -> RxQueue {
+    RxQueue {
+        queue: queue as usize,
+        size: size as usize,
+        head: head as usize,
+        posted: posted as usize,
+        buffer: buffer as usize,
+    }
+}
+
 // Nothing asked for yet, and nothing lent.
 pub fn none() -> Rx {
-    handed([0; GIVEN])
+    Rx {
+        queue: record(0, 0, 0, 0, 0),
+        ring: 0,
+        list: 0,
+    }
 }
 
 // The record and the lent lengths that a line hands in.
-fn handed(given: [u64; GIVEN]) -> Rx {
+fn handed(given: Given) -> Rx {
     Rx {
-        queue: RxQueue {
-            queue: place(given[0]),
-            size: place(given[1]),
-            head: place(given[2]),
-            posted: place(given[3]),
-            buffer: place(given[4]),
-        },
-        ring: place(given[5]),
-        list: place(given[6]),
+        queue: record(given.n0, given.n1, given.n2, given.n3, given.n4),
+        ring: given.n5 as usize,
+        list: given.n6 as usize,
     }
 }
 
@@ -87,8 +93,8 @@ fn fresh_row(answer: u8, queue: RxQueue) -> Row {
     )
 }
 
-fn fresh(given: [u64; GIVEN], rx: Rx) -> Received {
-    let fresh = RxQueue::fresh(place(given[0]), place(given[1]), place(given[2]));
+fn fresh(given: Given, rx: Rx) -> Received {
+    let fresh = RxQueue::fresh(given.n0 as usize, given.n1 as usize, given.n2 as usize);
     let queue = fresh.queue;
     Received {
         rx: begun(fresh.answer, queue, rx),
@@ -119,6 +125,10 @@ fn post(rx: Rx, address: u64, ring: &mut [u64], list: &mut [u64]) -> Received {
     posted(rx, queue.post(&mut ring[..r], &mut list[..l], address))
 }
 
+fn wide(n: usize) -> u64 {
+    n as u64
+}
+
 fn from_byte(n: u8) -> u64 {
     n as u64
 }
@@ -133,68 +143,46 @@ fn family_number(family: Family) -> u64 {
     }
 }
 
-// Where the numbers of a take's answer stand: the packet's slots, then the fields of the last one.
-fn with_slots(row: [u64; LONGEST], packet: Packet) -> [u64; LONGEST] {
+// The row of a take: the packet's slots, then the fields of the last one.
+fn take_row(answer: u8, queue: RxQueue, packet: Packet) -> [u64; LONGEST] {
+    let last = packet.last;
     let a = packet.addresses;
     let l = packet.lengths;
-    let mut values = row;
-    values[5] = a[0];
-    values[6] = wide(l[0]);
-    values[7] = a[1];
-    values[8] = wide(l[1]);
-    values[9] = a[2];
-    values[10] = wide(l[2]);
-    values[11] = a[3];
-    values[12] = wide(l[3]);
-    values[13] = a[4];
-    values[14] = wide(l[4]);
-    values
-}
-
-fn with_flags(row: [u64; LONGEST], last: WriteBack) -> [u64; LONGEST] {
-    let mut values = row;
-    values[17] = last.dd as u64;
-    values[18] = last.eop as u64;
-    values[19] = last.l2tag1p as u64;
-    values[20] = last.l3l4p as u64;
-    values[21] = last.crcp as u64;
-    values[24] = last.lpbk as u64;
-    values[25] = last.ipv6exadd as u64;
-    values[26] = last.int_udp_0 as u64;
-    values[27] = last.ipe as u64;
-    values[28] = last.l4e as u64;
-    values[29] = last.oversize as u64;
-    values
-}
-
-fn with_last(row: [u64; LONGEST], last: WriteBack) -> [u64; LONGEST] {
     let family = last.family;
-    let mut values = row;
-    values[15] = last.tag as u64;
-    values[16] = last.hash as u64;
-    values[22] = from_byte(last.umbcast);
-    values[23] = from_byte(last.fltstat);
-    values[30] = from_byte(last.ptype);
-    values[31] = family_number(family);
-    values
-}
-
-fn take_row(answer: u8, queue: RxQueue, packet: Packet) -> Row {
-    let last = packet.last;
-    let first = row_of(
-        LONGEST,
+    [
         answer as u64,
         queue.head as u64,
         queue.posted as u64,
         packet.count as u64,
         packet.total as u64,
-        0,
-    );
-    let values = first.values;
-    Row {
-        values: with_last(with_flags(with_slots(values, packet), last), last),
-        count: LONGEST,
-    }
+        a[0],
+        wide(l[0]),
+        a[1],
+        wide(l[1]),
+        a[2],
+        wide(l[2]),
+        a[3],
+        wide(l[3]),
+        a[4],
+        wide(l[4]),
+        last.tag as u64,
+        last.hash as u64,
+        last.dd as u64,
+        last.eop as u64,
+        last.l2tag1p as u64,
+        last.l3l4p as u64,
+        last.crcp as u64,
+        from_byte(last.umbcast),
+        from_byte(last.fltstat),
+        last.lpbk as u64,
+        last.ipv6exadd as u64,
+        last.int_udp_0 as u64,
+        last.ipe as u64,
+        last.l4e as u64,
+        last.oversize as u64,
+        from_byte(last.ptype),
+        family_number(family),
+    ]
 }
 
 fn taken(rx: Rx, taken: Taken) -> Received {
@@ -202,7 +190,10 @@ fn taken(rx: Rx, taken: Taken) -> Received {
     let packet = taken.packet;
     Received {
         rx: with(rx, queue),
-        row: take_row(taken.answer, queue, packet),
+        row: Row {
+            values: take_row(taken.answer, queue, packet),
+            count: LONGEST,
+        },
     }
 }
 
@@ -228,7 +219,7 @@ fn sums(rx: Rx, ring: &[u64], list: &[u64]) -> Received {
 }
 
 // The lines that need the record alone; any other leaves it as it is.
-fn record_line(command: Command, given: [u64; GIVEN], rx: Rx) -> Received {
+fn record_line(command: Command, given: Given, rx: Rx) -> Received {
     let queue = rx.queue;
     match command {
         Command::Rx => fresh(given, rx),
@@ -245,7 +236,7 @@ fn record_line(command: Command, given: [u64; GIVEN], rx: Rx) -> Received {
 // The lines that read the memory.
 fn reading_line(
     command: Command,
-    given: [u64; GIVEN],
+    given: Given,
     rx: Rx,
     ring: &[u64; RING],
     list: &[u64; SLOTS],
@@ -258,11 +249,12 @@ fn reading_line(
 }
 
 // Memory that a line writes.
-fn write(command: Command, given: [u64; GIVEN], ring: &mut [u64; RING], list: &mut [u64; SLOTS]) {
-    let i = place(given[0]);
+fn write(command: Command, given: Given, ring: &mut [u64; RING], list: &mut [u64; SLOTS]) {
+    let i = given.n0 as usize;
+    let value = given.n1;
     match command {
-        Command::RxPoke => poke(ring, i, given[1]),
-        Command::RxList => poke(list, i, given[1]),
+        Command::RxPoke => poke(ring, i, value),
+        Command::RxList => poke(list, i, value),
         _ => {}
     }
 }
@@ -270,14 +262,14 @@ fn write(command: Command, given: [u64; GIVEN], ring: &mut [u64; RING], list: &m
 // The commands of the receive queue; any other leaves all as it is.
 pub fn line(
     command: Command,
-    given: [u64; GIVEN],
+    given: Given,
     rx: Rx,
     ring: &mut [u64; RING],
     list: &mut [u64; SLOTS],
 ) -> Received {
     write(command, given, ring, list);
     match command {
-        Command::Post => post(rx, given[0], ring, list),
+        Command::Post => post(rx, given.n0, ring, list),
         _ => reading_line(command, given, rx, ring, list),
     }
 }

@@ -29,15 +29,20 @@ fn family_number(family: Family) -> u64 {
     }
 }
 
+fn five(sum: u64, a: u64, b: u64, c: u64, d: u64, e: u64) -> u64 {
+    mix(mix(mix(mix(mix(sum, a), b), c), d), e)
+}
+
 fn addresses(sum: u64, a: [u64; 5]) -> u64 {
-    mix(mix(mix(mix(mix(sum, a[0]), a[1]), a[2]), a[3]), a[4])
+    five(sum, a[0], a[1], a[2], a[3], a[4])
+}
+
+fn five_numbers(sum: u64, a: usize, b: usize, c: usize, d: usize, e: usize) -> u64 {
+    number(number(number(number(number(sum, a), b), c), d), e)
 }
 
 fn lengths(sum: u64, a: [usize; 5]) -> u64 {
-    number(
-        number(number(number(number(sum, a[0]), a[1]), a[2]), a[3]),
-        a[4],
-    )
+    five_numbers(sum, a[0], a[1], a[2], a[3], a[4])
 }
 
 fn flags(sum: u64, w: WriteBack) -> u64 {

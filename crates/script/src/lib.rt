@@ -1,6 +1,5 @@
 // What the lines of a script share: how much memory a queue has, the first numbers of a line, and the numbers of an answer. A part of
 // the program `probe`: what it prints is compared.
-ghost use mathlib.Core.Path.{_≡_};
 ghost use Rattle.script.specs.Lent.{Lent};
 
 // Each queue's memory, in slots, and in numbers of its ring.
@@ -8,7 +7,7 @@ pub const SLOTS: usize = 8192;
 
 pub const RING: usize = 2 * SLOTS;
 
-// The first numbers of a line: a send's addresses stand behind them.
+// How many numbers of a send stand before its addresses.
 pub const GIVEN: usize = 13;
 
 // The most numbers that a line can have: a send with an address and a length for each slot.
@@ -16,6 +15,23 @@ pub const NUMBERS: usize = GIVEN + RING;
 
 // The numbers of the longest answer.
 pub const LONGEST: usize = 32;
+
+// The first numbers of a line, by their place.
+pub struct Given {
+    pub n0: u64,
+    pub n1: u64,
+    pub n2: u64,
+    pub n3: u64,
+    pub n4: u64,
+    pub n5: u64,
+    pub n6: u64,
+    pub n7: u64,
+    pub n8: u64,
+    pub n9: u64,
+    pub n10: u64,
+    pub n11: u64,
+    pub n12: u64,
+}
 
 // An answer's numbers, so many of them; a line that prints nothing has none.
 pub struct Row {
@@ -40,20 +56,6 @@ pub fn row_of(count: usize, a: u64, b: u64, c: u64, d: u64, e: u64, f: u64) -> R
     values[4] = e;
     values[5] = f;
     Row { values, count }
-}
-
-// A number as a place or a length.
-pub fn place(n: u64) -> usize
-    ensures { λ r. ⌜ r ≡ n ⌝ }
-{
-    n as usize
-}
-
-// A length as a number.
-pub fn wide(n: usize) -> u64
-    ensures { λ r. ⌜ r ≡ n ⌝ }
-{
-    n as u64
 }
 
 // How much of memory is lent: so much, or all of it.

@@ -5,6 +5,7 @@ use offload::IpKind;
 use offload::L4Kind;
 use offload::Request;
 use script::GIVEN;
+use script::Given;
 use script::NUMBERS;
 use script::RING;
 use script::Row;
@@ -12,7 +13,6 @@ use script::SLOTS;
 use script::lent;
 use script::lent_counts;
 use script::no_row;
-use script::place;
 use script::poke;
 use script::row_of;
 use sum::sum_counts;
@@ -35,24 +35,33 @@ pub struct Passed {
     pub row: Row,
 }
 
+fn record(queue: u64, size: u64, head: u64, posted: u64, frame: u64) -> TxQueue {
+    TxQueue {
+        queue: queue as usize,
+        size: size as usize,
+        head: head as usize,
+        posted: posted as usize,
+        frame: frame as usize,
+    }
+}
+
 // Nothing asked for yet, and nothing lent.
 pub fn none() -> Tx {
-    handed([0; GIVEN])
+    Tx {
+        queue: record(0, 0, 0, 0, 0),
+        ring: 0,
+        tokens: 0,
+        counts: 0,
+    }
 }
 
 // The record and the lent lengths that a line hands in.
-fn handed(given: [u64; GIVEN]) -> Tx {
+fn handed(given: Given) -> Tx {
     Tx {
-        queue: TxQueue {
-            queue: place(given[0]),
-            size: place(given[1]),
-            head: place(given[2]),
-            posted: place(given[3]),
-            frame: place(given[4]),
-        },
-        ring: place(given[5]),
-        tokens: place(given[6]),
-        counts: place(given[7]),
+        queue: record(given.n0, given.n1, given.n2, given.n3, given.n4),
+        ring: given.n5 as usize,
+        tokens: given.n6 as usize,
+        counts: given.n7 as usize,
     }
 }
 
@@ -92,8 +101,8 @@ fn fresh_row(answer: u8, queue: TxQueue) -> Row {
     )
 }
 
-fn fresh(given: [u64; GIVEN], tx: Tx) -> Passed {
-    let fresh = TxQueue::fresh(place(given[0]), place(given[1]), place(given[2]));
+fn fresh(given: Given, tx: Tx) -> Passed {
+    let fresh = TxQueue::fresh(given.n0 as usize, given.n1 as usize, given.n2 as usize);
     let queue = fresh.queue;
     Passed {
         tx: begun(fresh.answer, queue, tx),
@@ -119,18 +128,18 @@ fn l4_kind(n: u64) -> L4Kind {
     }
 }
 
-fn request(given: [u64; GIVEN]) -> Request {
+fn request(given: Given) -> Request {
     Request {
-        ip: ip_kind(given[1]),
-        l4: l4_kind(given[2]),
-        mac_length: given[3],
-        ip_length: given[4],
-        l4_length: given[5],
-        vlan: given[6] == 1,
-        tag: given[7],
-        segmented: given[8] == 1,
-        mss: given[9],
-        tlen: given[10],
+        ip: ip_kind(given.n1),
+        l4: l4_kind(given.n2),
+        mac_length: given.n3,
+        ip_length: given.n4,
+        l4_length: given.n5,
+        vlan: given.n6 == 1,
+        tag: given.n7,
+        segmented: given.n8 == 1,
+        mss: given.n9,
+        tlen: given.n10,
     }
 }
 
@@ -160,7 +169,7 @@ fn part(numbers: &[u64], from: usize, count: usize) -> &[u64] {
 
 fn send(
     tx: Tx,
-    given: [u64; GIVEN],
+    given: Given,
     addresses: &[u64],
     lengths: &[u64],
     ring: &mut [u64],
@@ -177,7 +186,7 @@ fn send(
         &mut counts[..c],
         addresses,
         lengths,
-        given[0],
+        given.n0,
         request(given),
     )
 }
@@ -185,16 +194,16 @@ fn send(
 // A send's addresses stand behind its first numbers, and its lengths behind those.
 fn send_line(
     tx: Tx,
-    given: [u64; GIVEN],
+    given: Given,
     numbers: &[u64; NUMBERS],
     ring: &mut [u64; RING],
     tokens: &mut [u64; SLOTS],
     counts: &mut [u16; SLOTS],
 ) -> Passed {
-    let pieces = place(given[11]);
+    let pieces = given.n11 as usize;
     let behind = std::num::wrapping_add_usize(GIVEN, pieces);
     let addresses = part(numbers, GIVEN, pieces);
-    let lengths = part(numbers, behind, place(given[12]));
+    let lengths = part(numbers, behind, given.n12 as usize);
     sent(
         tx,
         send(tx, given, addresses, lengths, ring, tokens, counts),
@@ -248,7 +257,7 @@ fn sums(tx: Tx, ring: &[u64], tokens: &[u64], counts: &[u16]) -> Passed {
 }
 
 // The lines that need the record alone; any other leaves it as it is.
-fn record_line(command: Command, given: [u64; GIVEN], tx: Tx) -> Passed {
+fn record_line(command: Command, given: Given, tx: Tx) -> Passed {
     let queue = tx.queue;
     match command {
         Command::Tx => fresh(given, tx),
@@ -265,7 +274,7 @@ fn record_line(command: Command, given: [u64; GIVEN], tx: Tx) -> Passed {
 // The lines that read the memory.
 fn reading_line(
     command: Command,
-    given: [u64; GIVEN],
+    given: Given,
     tx: Tx,
     ring: &[u64; RING],
     tokens: &[u64; SLOTS],
@@ -290,16 +299,17 @@ fn poke_count(counts: &mut [u16; SLOTS], i: usize, value: u64) {
 // Memory that a line writes.
 fn write(
     command: Command,
-    given: [u64; GIVEN],
+    given: Given,
     ring: &mut [u64; RING],
     tokens: &mut [u64; SLOTS],
     counts: &mut [u16; SLOTS],
 ) {
-    let i = place(given[0]);
+    let i = given.n0 as usize;
+    let value = given.n1;
     match command {
-        Command::TxPoke => poke(ring, i, given[1]),
-        Command::TxToken => poke(tokens, i, given[1]),
-        Command::TxCount => poke_count(counts, i, given[1]),
+        Command::TxPoke => poke(ring, i, value),
+        Command::TxToken => poke(tokens, i, value),
+        Command::TxCount => poke_count(counts, i, value),
         _ => {}
     }
 }
@@ -307,7 +317,7 @@ fn write(
 // The commands of the transmit queue; any other leaves all as it is.
 pub fn line(
     command: Command,
-    given: [u64; GIVEN],
+    given: Given,
     numbers: &[u64; NUMBERS],
     tx: Tx,
     ring: &mut [u64; RING],

@@ -1,9 +1,10 @@
-// The bench: both queues, and the calls that the lines of a script ask for.
-use crate::interrupts;
+// Both queues, and the calls that the lines of a script ask for. A part of the program `probe`: what it prints is compared.
+mod interrupts;
+
 use command::Command;
 use forms::Said;
 use receive_lines::Rx;
-use script::GIVEN;
+use script::Given;
 use script::NUMBERS;
 use script::RING;
 use script::Row;
@@ -12,13 +13,13 @@ use script::no_row;
 use send_lines::Tx;
 
 // Both queues, and the numbers of the last answer.
-pub(crate) struct Bench {
-    pub(crate) rx: Rx,
-    pub(crate) tx: Tx,
-    pub(crate) row: Row,
+pub struct Bench {
+    rx: Rx,
+    tx: Tx,
+    pub row: Row,
 }
 
-pub(crate) fn start() -> Bench {
+pub fn start() -> Bench {
     Bench {
         rx: receive_lines::none(),
         tx: send_lines::none(),
@@ -27,7 +28,7 @@ pub(crate) fn start() -> Bench {
 }
 
 // An interrupt word, where one is asked for.
-fn other_line(command: Command, given: [u64; GIVEN]) -> Row {
+fn other_line(command: Command, given: Given) -> Row {
     match command {
         Command::Int => interrupts::word(given),
         _ => no_row(),
@@ -40,7 +41,7 @@ fn either(a: Row, b: Row) -> Row {
 }
 
 // What a line says: at most one of the three has an answer.
-pub(crate) fn call(
+pub fn call(
     said: Said,
     bench: Bench,
     numbers: &[u64; NUMBERS],

@@ -1,7 +1,7 @@
 // Interrupt words.
 use interrupt::Enable;
 use interrupt::Request;
-use script::GIVEN;
+use script::Given;
 use script::Row;
 use script::row_of;
 
@@ -13,16 +13,16 @@ fn enable(n: u64) -> Enable {
     }
 }
 
-pub(crate) fn word(given: [u64; GIVEN]) -> Row {
+pub(crate) fn word(given: Given) -> Row {
     let answer = interrupt::interrupt(Request {
-        vector: given[0],
-        enable: enable(given[1]),
-        write_back: given[2] == 1,
-        clear: given[3] == 1,
-        trigger: given[4] == 1,
-        trigger_index: given[5],
-        index: given[6],
-        interval: given[7],
+        vector: given.n0,
+        enable: enable(given.n1),
+        write_back: given.n2 == 1,
+        clear: given.n3 == 1,
+        trigger: given.n4 == 1,
+        trigger_index: given.n5,
+        index: given.n6,
+        interval: given.n7,
     });
     row_of(3, answer.answer as u64, answer.offset, answer.word, 0, 0, 0)
 }
