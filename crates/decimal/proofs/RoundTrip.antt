@@ -6,7 +6,7 @@ use mathlib.Core.List.{List, [], _∷_, _++_, foldl-append}
 use native.Mathlib.Omega.{arith}
 use borrow.Author.Tests.{le-leb, lt-ltb}
 use lib.ListN.{length, getD}
-use Rattle.decimal.specs.Digits.{isDigit, allDigits, oneMore, valueOf, numberIs, noNumber, numberOf, digitsIn, digitsOf, WellWritten}
+use Rattle.decimal.specs.Digits.{isDigit, allDigits, oneMore, valueOf, numberIs, numberOf, digitsIn, digitsOf, WellWritten}
 use Rattle.decimal.proofs.Written.{each, digits-some, digits-short}
 
 digit-is : (d : ℕ) → d < 10 → isDigit (48 + d) ≡ true
@@ -53,28 +53,3 @@ module _ (n : ℕ) (h : n < 2 ^ 64) where
 
   pub well-written : WellWritten n
   well-written = record { value-back = value-of; read-back = read-of; some = digits-some n h; few = digits-short n h; no-leading-zero = leads-of }
-
--- at the ends: leading zeros are allowed, twenty digits at most, and 2^64 - 1 is the largest number
-six : numberOf (48 ∷ 48 ∷ 54 ∷ []) ≡ numberIs 6
-unfolding numberOf
-six = refl
-
-empty : numberOf [] ≡ noNumber
-unfolding numberOf
-empty = refl
-
-largest : numberOf (digitsOf 18446744073709551615) ≡ numberIs 18446744073709551615
-unfolding numberOf digitsOf digitsIn
-largest = refl
-
-one-more : numberOf (digitsOf 18446744073709551616) ≡ noNumber
-unfolding numberOf digitsOf digitsIn
-one-more = refl
-
-long : numberOf (48 ∷ digitsOf 18446744073709551615) ≡ noNumber
-unfolding numberOf digitsOf digitsIn
-long = refl
-
-zero-is : digitsOf 0 ≡ 48 ∷ []
-unfolding digitsOf digitsIn
-zero-is = refl
