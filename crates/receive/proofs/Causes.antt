@@ -3,29 +3,31 @@
 use Prim.Native.Nat.{ℕ, suc}
 use mathlib.Core.Path.{_≡_, refl, sym, _∙_}
 use mathlib.Core.Logic.{_≢_}
-use mathlib.Core.Bool.{Bool, true, false, not, cond}
+use mathlib.Core.Bool.{Bool, true, false, not, _&&_, cond}
 use mathlib.Core.List.{List, [], _∷_}
 use lib.ListN.{length}
 use Rattle.rules.specs.Rules.{_when_, answerOf, Answers}
 use Rattle.rules.proofs.Checks.{has-cause, is-answered, one-check}
+use Rattle.ring.specs.Sizes.{queueOk}
+use Rattle.ring.proofs.Record.{empty-ok}
 use Rattle.writeback.specs.WriteBack.{dd, eop}
 use Rattle.receive.specs.declared.RxQueue.{RxQueue}
 use Rattle.receive.specs.declared.Fresh.{Fresh}
-use Rattle.receive.specs.declared.Asked.{Asked}
-use Rattle.receive.specs.Queue.{numbersOk, recordOk, lentOk, emptyQueue, freshOf, askedOf}
+use Rattle.receive.specs.Queue.{bufferOk, recordOk, lentOk, emptyQueue, freshOf}
 use Rattle.receive.specs.Slots.{Slot, postedSlots}
 use Rattle.receive.specs.Post.{postChecks, postAnswer, answerTo}
 use Rattle.receive.specs.Take.{lengthOk, endOk, Look, refuse, whole, andThen, scan, look, slotChecks, takeChecks, takeBy, takeOf}
 
--- ---- one check alone: fresh, and a number asked of a record, answer 1 exactly if a line is broken
+-- ---- fresh: 1 exactly if the empty record is not accepted, so exactly if a number is outside its line
 
-pub fresh-answer : (queue size buffer : ℕ) → freshOf queue size buffer .answer ≡ answerOf (1 when not (numbersOk queue size buffer) ∷ [])
-unfolding freshOf
-fresh-answer queue size buffer = one-check (λ (f : Fresh). f .answer) (numbersOk queue size buffer) (record { answer = 0; queue = emptyQueue queue size buffer }) (record { answer = 1; queue = emptyQueue 0 0 0 }) refl refl
+module _ (queue size buffer : ℕ) where
+  pub fresh-answer : freshOf queue size buffer .answer ≡ answerOf (1 when not (recordOk (emptyQueue queue size buffer)) ∷ [])
+  unfolding freshOf
+  fresh-answer = one-check (λ (f : Fresh). f .answer) (recordOk (emptyQueue queue size buffer)) (record { answer = 0; queue = emptyQueue queue size buffer }) (record { answer = 1; queue = emptyQueue 0 0 0 }) refl refl
 
-pub asked-answer : (q : RxQueue) (n : ℕ) → askedOf q n .answer ≡ answerOf (1 when not (recordOk q) ∷ [])
-unfolding askedOf
-asked-answer q n = one-check (λ (a : Asked). a .answer) (recordOk q) (record { answer = 0; value = n }) (record { answer = 1; value = 0 }) refl refl
+  pub fresh-numbers : recordOk (emptyQueue queue size buffer) ≡ queueOk queue size && bufferOk buffer
+  unfolding recordOk
+  fresh-numbers = rw (empty-ok queue size)
 
 -- ---- post: 1, 2, 3
 

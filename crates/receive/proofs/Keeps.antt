@@ -1,45 +1,41 @@
 -- A record given back by any call on an accepted record is accepted again, and so is a fresh one.
 -- Assumes nothing.
-use Prim.Native.Nat.{ℕ, _+_, _-_, _<_}
+use Prim.Native.Nat.{ℕ}
 use mathlib.Core.Path.{_≡_, refl}
-use mathlib.Core.Bool.{Bool, true, false, _&&_, cond}
+use mathlib.Core.Bool.{Bool, true, false, cond}
 use mathlib.Core.List.{List}
-use native.Mathlib.Omega.{arith}
-use borrow.Author.Tests.{lt-ltb, eqb-true}
-use lib.Dec.{ltb, eqb}
+use borrow.Author.Tests.{eqb-true}
+use lib.Dec.{eqb}
 use lib.ListN.{length}
 use Rattle.rules.proofs.Tests.{both}
-use Rattle.ring.proofs.Steps.{slot-below}
+use Rattle.ring.specs.declared.Queue.{Queue}
+use Rattle.ring.specs.Queue.{sharedOk}
+use Rattle.ring.proofs.Record.{advanced-keeps, grown-keeps}
 use Rattle.receive.specs.declared.RxQueue.{RxQueue}
-use Rattle.receive.specs.Queue.{numbersOk, recordOk, movedTo, emptyQueue, freshOf}
+use Rattle.receive.specs.Queue.{bufferOk, recordOk, movedTo, freshOf}
 use Rattle.receive.specs.Post.{oneMore, answerTo, postOf}
 use Rattle.receive.specs.Take.{Look, refuse, whole, look, takeBy, takeOf}
-use Rattle.receive.proofs.Laws.{fresh-lines, lines-size, fresh-queue, kept, done-room}
-
--- accepted numbers, with a head and a posted below the size
-accepted : (q : RxQueue) → numbersOk (q .queue) (q .size) (q .buffer) ≡ true → q .head < q .size → q .posted < q .size → recordOk q ≡ true
-unfolding recordOk
-accepted q n h p = rw (n, lt-ltb (q .head) (q .size) h, lt-ltb (q .posted) (q .size) p)
+use Rattle.receive.proofs.Laws.{fresh-lines, fresh-queue, done-room}
 
 pub fresh-keeps : (queue size buffer : ℕ) → freshOf queue size buffer .answer ≡ 0 → recordOk (freshOf queue size buffer .queue) ≡ true
-fresh-keeps queue size buffer z =
-    let n = fresh-lines queue size buffer z in
-    let l = lines-size queue size buffer n in
-    rw (fresh-queue queue size buffer n) (accepted (emptyQueue queue size buffer) n (omega arith) (omega arith))
+fresh-keeps queue size buffer z = let n = fresh-lines queue size buffer z in rw (fresh-queue queue size buffer n) n
 
 module _ (q : RxQueue) (ok : recordOk q ≡ true) where
-  moved : (head posted : ℕ) → head < q .size → posted < q .size → recordOk (movedTo q head posted) ≡ true
+  lines : (sharedOk (q .shared) ≡ true) × (bufferOk (q .buffer) ≡ true)
   unfolding recordOk
-  moved head posted h p =
-      accepted (movedTo q head posted) (both (numbersOk (q .queue) (q .size) (q .buffer)) (ltb (q .head) (q .size) && ltb (q .posted) (q .size)) ok .0) h p
+  lines = both (sharedOk (q .shared)) (bufferOk (q .buffer)) ok
+
+  -- another shared part that keeps its lines
+  moved : (s : Queue) → sharedOk s ≡ true → recordOk (movedTo q s) ≡ true
+  unfolding recordOk
+  moved s e = rw (e, lines .1)
 
   pub post-keeps : (ring list : List ℕ) (address : ℕ) → recordOk (postOf q ring list address .queue) ≡ true
   post-keeps ring list address = go (eqb (answerTo q ring list address) 0) refl
     where
       go : (b : Bool) → eqb (answerTo q ring list address) 0 ≡ b → recordOk (cond b (oneMore q) q) ≡ true
       go true e =
-          moved (q .head) (q .posted + 1) (kept q ok .head-below)
-          (done-room q (length ring) (length list) address (eqb-true (answerTo q ring list address) 0 e))
+          moved _ (grown-keeps (q .shared) (lines .0) 1 (done-room q (length ring) (length list) address (eqb-true (answerTo q ring list address) 0 e)))
       go false e = ok
 
   pub take-keeps : (ring list : List ℕ) → recordOk (takeOf q ring list .queue) ≡ true
@@ -48,6 +44,4 @@ module _ (q : RxQueue) (ok : recordOk q ≡ true) where
     where
       go : (l : Look) → recordOk (takeBy l q .queue) ≡ true
       go (refuse n) = ok
-      go (whole p) =
-          let k = kept q ok in
-          moved _ (q .posted - length p) (slot-below (q .head) (q .size) (length p) (omega arith)) (omega arith)
+      go (whole p) = moved _ (advanced-keeps (q .shared) (lines .0) (length p))

@@ -4,9 +4,9 @@ use Prim.Native.Nat.{ℕ}
 use mathlib.Core.Path.{_≡_}
 use mathlib.Core.List.{List}
 use Rattle.rules.proofs.Outcomes.{Fixes, alike, equation}
+use Rattle.ring.specs.declared.Asked.{Asked}
 use Rattle.receive.specs.declared.RxQueue.{RxQueue}
 use Rattle.receive.specs.declared.Fresh.{Fresh}
-use Rattle.receive.specs.declared.Asked.{Asked}
 use Rattle.receive.specs.declared.Taken.{Taken}
 use Rattle.receive.specs.Queue.{freshOf, tailValueOf, tailRegisterOf}
 use Rattle.receive.specs.Post.{postOf, ringAfter, listAfter, Outcome, Meets}

@@ -1,4 +1,4 @@
--- What a post leaves: one blank slot more behind the posted ones, and every other slot as it was; which slots are the device's.
+-- What a post leaves: one blank slot more behind the posted ones, and every other slot as it was.
 -- Assumes nothing.
 use Prim.Native.Nat.{ℕ, _*_, _<_}
 use mathlib.Core.Path.{_≡_, refl, ap, _∙_}
@@ -7,32 +7,18 @@ use mathlib.Core.Bool.{Bool, true, false, cond}
 use mathlib.Core.List.{List, [], _∷_, _++_}
 use native.Mathlib.Numerals.{add-one}
 use native.Mathlib.Omega.{arith}
-use borrow.Author.Tests.{eq-eqb, ne-eqb, le-ltb}
+use borrow.Author.Tests.{eq-eqb, ne-eqb}
 use lib.Dec.{eqb}
 use lib.ListN.{length, set}
 use lib.Seq.{getD-set-same, getD-set-other}
-use Rattle.ring.specs.Slots.{isDevices}
-use Rattle.ring.proofs.Steps.{slot-below, distance-slot, devices-slot, devices-only}
+use Rattle.ring.specs.Queue.{tailOf}
+use Rattle.ring.proofs.Record.{tail-below}
 use Rattle.ring.proofs.Stores.{read-same, read-other}
 use Rattle.ring.proofs.Runs.{run-snoc, run-outside}
 use Rattle.receive.specs.declared.RxQueue.{RxQueue}
-use Rattle.receive.specs.Queue.{recordOk, slotOf, tailOf}
 use Rattle.receive.specs.Slots.{Slot, wordsOf, slotIn, storeWords, postedSlots}
 use Rattle.receive.specs.Post.{blank, answerTo, postOf, ringAfter, listAfter, Unchanged}
-use Rattle.receive.proofs.Laws.{kept, done-lent}
-
--- ---- a slot is the device's exactly if its distance from head is below posted
-
-module _ (q : RxQueue) (ok : recordOk q ≡ true) where
-  pub device-has : (k : ℕ) → k < q .posted → isDevices (q .head) (q .size) (q .posted) (slotOf q k) ≡ true
-  device-has k h = let is = kept q ok in devices-slot (q .head) (q .size) (q .posted) k (is .head-below) (omega arith) h
-
-  pub device-only : (s : ℕ) → s < q .size → isDevices (q .head) (q .size) (q .posted) s ≡ true → (k : ℕ) × ((k < q .posted) × (slotOf q k ≡ s))
-  device-only s h e = devices-only (q .head) (q .size) (q .posted) s (kept q ok .head-below) h e
-
-  -- the slot at the tail, which a post writes, is not the device's
-  pub tail-free : isDevices (q .head) (q .size) (q .posted) (tailOf q) ≡ false
-  tail-free = let is = kept q ok in rw (distance-slot (q .head) (q .size) (q .posted) (is .head-below) (is .posted-below)) (le-ltb (q .posted) (q .posted) (omega arith))
+use Rattle.receive.proofs.Laws.{done-lent}
 
 -- ---- a slot put into a ring and a list
 
@@ -63,11 +49,11 @@ module _ (q : RxQueue) (ring list : List ℕ) (address : ℕ) where
       record { queue-same = rw e; ring-same = rw e; list-same = rw e }
 
   -- a post leaves every slot but the one at the tail, and its list entry, as it was
-  pub post-leaves : (s : ℕ) → s ≢ tailOf q → slotIn (ringAfter q ring list address) (listAfter q ring list address) s ≡ slotIn ring list s
+  pub post-leaves : (s : ℕ) → s ≢ tailOf (q .shared) → slotIn (ringAfter q ring list address) (listAfter q ring list address) s ≡ slotIn ring list s
   post-leaves s ne = go (eqb (answerTo q ring list address) 0)
     where
-      go : (b : Bool) → slotIn (cond b (storeWords ring (tailOf q) (blank address)) ring) (cond b (set list (tailOf q) address) list) s ≡ slotIn ring list s
-      go true = put-other ring list (tailOf q) address s ne
+      go : (b : Bool) → slotIn (cond b (storeWords ring (tailOf (q .shared)) (blank address)) ring) (cond b (set list (tailOf (q .shared)) address) list) s ≡ slotIn ring list s
+      go true = put-other ring list (tailOf (q .shared)) address s ne
       go false = refl
 
   -- an accepted one puts a blank slot with its address behind the posted ones, which stay
@@ -77,12 +63,11 @@ module _ (q : RxQueue) (ring list : List ℕ) (address : ℕ) where
   unfolding postedSlots
   post-adds e =
       let l = done-lent q (length ring) (length list) address e in
-      let k = l .is in
       let at : ℕ → Slot = slotIn ring list in
-      let at′ : ℕ → Slot = put ring list (tailOf q) address in
-      rw (eq-eqb (answerTo q ring list address) 0 e, add-one (q .posted))
-      (run-snoc at′ (q .size) (q .head) (q .posted)
+      let at′ : ℕ → Slot = put ring list (tailOf (q .shared)) address in
+      rw (eq-eqb (answerTo q ring list address) 0 e, add-one (q .shared .posted))
+      (run-snoc at′ (q .shared .size) (q .shared .head) (q .shared .posted)
       ∙ rw (
-        run-outside at at′ (q .size) (q .head) (q .posted) (q .posted) (omega arith) (k .posted-below) (put-other ring list (tailOf q) address),
-        put-same ring list (tailOf q) address (q .size) (slot-below (q .head) (q .size) (q .posted) (omega arith)) (l .ring-long) (l .list-long),
+        run-outside at at′ (q .shared .size) (q .shared .head) (q .shared .posted) (q .shared .posted) (omega arith) (l .is .shared-is .posted-below) (put-other ring list (tailOf (q .shared)) address),
+        put-same ring list (tailOf (q .shared)) address (q .shared .size) (tail-below (q .shared) (l .is .shared-is)) (l .ring-long) (l .list-long),
       ))

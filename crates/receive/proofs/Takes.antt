@@ -10,11 +10,12 @@ use lib.ListN.{length, getD, take, length-append, length-map, List·getD-eq-defa
 use lib.Seq.{take-append-seam}
 use Rattle.rules.proofs.Tests.{both}
 use Rattle.ring.specs.Slots.{run}
+use Rattle.ring.specs.Queue.{slotOf}
 use Rattle.ring.proofs.Runs.{length-run, getD-run, run-take}
 use Rattle.writeback.specs.WriteBack.{dd, eop, lengthOf, familyOf, writeBackOf}
 use Rattle.receive.specs.declared.RxQueue.{RxQueue}
 use Rattle.receive.specs.declared.Taken.{Taken}
-use Rattle.receive.specs.Queue.{lentOk, slotOf}
+use Rattle.receive.specs.Queue.{lentOk}
 use Rattle.receive.specs.Slots.{Slot, slotIn, postedSlots}
 use Rattle.receive.specs.Take.{packetSlots, lengthOk, endOk, allowed, writable, Look, refuse, whole, andThen, scan, look, sum, padded, addressesOf, lengthsOf, lastWords, packetOf, noPacket, advanced, takeBy, takeOf}
 use Rattle.receive.specs.Packets.{Complete, ends, goes, HandedUp, Told}
@@ -116,9 +117,9 @@ module _ (q : RxQueue) (ring list : List ℕ) where
   abbrev slots : List Slot
   slots = postedSlots q ring list
 
-  pub slots-long : length slots ≡ q .posted
+  pub slots-long : length slots ≡ q .shared .posted
   unfolding postedSlots
-  slots-long = length-run (slotIn ring list) (q .size) (q .head) (q .posted)
+  slots-long = length-run (slotIn ring list) (q .shared .size) (q .shared .head) (q .shared .posted)
 
   by-scan : (p : List Slot) → lentOk q (length ring) (length list) ≡ true → scan (q .buffer) 0 slots ≡ whole p → HandedUp q ring list (takeBy (whole p) q)
   unfolding takeBy packetOf
@@ -154,7 +155,7 @@ module _ (q : RxQueue) (ring list : List ℕ) where
   unfolding takeOf look takeBy
   hands-up-if p rest a c e = rw (a, e, is-seen (q .buffer) 0 p rest c)
 
-  module _ (f : Slot → ℕ) (n : ℕ) (few : n ≤ packetSlots) (within : n ≤ q .posted) (i : ℕ) where
+  module _ (f : Slot → ℕ) (n : ℕ) (few : n ≤ packetSlots) (within : n ≤ q .shared .posted) (i : ℕ) where
     abbrev told : List ℕ
     told = map f (take n slots)
 
@@ -162,20 +163,20 @@ module _ (q : RxQueue) (ring list : List ℕ) where
     unfolding postedSlots
     told-long =
         length-map (take n slots) f
-        ∙ ap length (run-take (slotIn ring list) (q .size) (q .head) n (q .posted) within)
-        ∙ length-run (slotIn ring list) (q .size) (q .head) n
+        ∙ ap length (run-take (slotIn ring list) (q .shared .size) (q .shared .head) n (q .shared .posted) within)
+        ∙ length-run (slotIn ring list) (q .shared .size) (q .shared .head) n
 
     padded-told : getD (padded told) i 0 ≡ getD told i 0
     padded-told = padded-at told i (rw told-long few)
 
-    place-at : i < n → getD (padded told) i 0 ≡ f (slotIn ring list (slotOf q i))
+    place-at : i < n → getD (padded told) i 0 ≡ f (slotIn ring list (slotOf (q .shared) i))
     unfolding postedSlots
     place-at h =
         let at : ℕ → Slot = slotIn ring list in
         padded-told
-        ∙ ap (λ (p : List Slot). getD (map f p) i 0) (run-take at (q .size) (q .head) n (q .posted) within)
-        ∙ map-at f (run at (q .size) (q .head) n) i (at 0) (rw length-run h)
-        ∙ ap f (getD-run at (q .size) (q .head) n i (at 0) h)
+        ∙ ap (λ (p : List Slot). getD (map f p) i 0) (run-take at (q .shared .size) (q .shared .head) n (q .shared .posted) within)
+        ∙ map-at f (run at (q .shared .size) (q .shared .head) n) i (at 0) (rw length-run h)
+        ∙ ap f (getD-run at (q .shared .size) (q .shared .head) n i (at 0) h)
 
     place-past : n ≤ i → getD (padded told) i 0 ≡ 0
     place-past h = padded-told ∙ List·getD-eq-default told 0 {n = i} (rw told-long h)

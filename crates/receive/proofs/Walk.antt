@@ -12,11 +12,11 @@ use lib.Dec.{ltb}
 use lib.ListN.{length, set, length-map}
 use Rattle.rules.proofs.Tests.{both}
 use Rattle.ring.specs.Slots.{run}
+use Rattle.ring.specs.Queue.{slotOf}
 use Rattle.ring.proofs.Runs.{length-run, run-snoc}
 use Rattle.writeback.specs.Places.{lengthPlace}
 use Rattle.writeback.specs.WriteBack.{Words, dd, eop, lengthOf, writeBackOf}
 use Rattle.receive.specs.declared.RxQueue.{RxQueue}
-use Rattle.receive.specs.Queue.{slotOf}
 use Rattle.receive.specs.Slots.{Slot, slotIn, postedSlots}
 use Rattle.receive.specs.Take.{packetSlots, lengthOk, endOk, allowed, Look, refuse, whole, andThen, scan, sum, padded, addressesOf, lengthsOf, packetOf, advanced, takeBy}
 use Rattle.receive.proofs.Packets.{padded-more, sum-more, map-more, last-more, after, after-more, after-refuse, after-whole}
@@ -55,29 +55,29 @@ module _ (buffer k : ℕ) (s : Slot) (rest : List Slot) where
 module _ (q : RxQueue) (ring list : List ℕ) where
   -- the slot at distance k from head; the first k slots, and those after them
   abbrev pub slotNo : ℕ → Slot
-  slotNo k = slotIn ring list (slotOf q k)
+  slotNo k = slotIn ring list (slotOf (q .shared) k)
 
   abbrev pub seen : ℕ → List Slot
-  seen k = run (slotIn ring list) (q .size) (q .head) k
+  seen k = run (slotIn ring list) (q .shared .size) (q .shared .head) k
 
   abbrev pub rest : ℕ → List Slot
-  rest k = run (slotIn ring list) (q .size) (q .head + k) (q .posted - k)
+  rest k = run (slotIn ring list) (q .shared .size) (q .shared .head + k) (q .shared .posted - k)
 
   abbrev pub scanned : Look
   scanned = scan (q .buffer) 0 (postedSlots q ring list)
 
-  rest-more : (k : ℕ) → k < q .posted → rest k ≡ slotNo k ∷ rest (suc k)
+  rest-more : (k : ℕ) → k < q .shared .posted → rest k ≡ slotNo k ∷ rest (suc k)
   unfolding run
-  rest-more k h = let e : q .posted - k ≡ suc (q .posted - suc k) = omega arith in rw (e, add-suc (q .head) k)
+  rest-more k h = let e : q .shared .posted - k ≡ suc (q .shared .posted - suc k) = omega arith in rw (e, add-suc (q .shared .head) k)
 
-  rest-none : (k : ℕ) → q .posted ≤ k → rest k ≡ []
+  rest-none : (k : ℕ) → q .shared .posted ≤ k → rest k ≡ []
   unfolding run
-  rest-none k h = let e : q .posted - k ≡ 0 = omega arith in rw e
+  rest-none k h = let e : q .shared .posted - k ≡ 0 = omega arith in rw e
 
   -- k slots of the packet are seen, none of which is its last: the places and the total are theirs
   pub record Walked (addresses lengths : List ℕ) (total k : ℕ) : Type 0 where
     pub few : k < packetSlots
-    pub within : k ≤ q .posted
+    pub within : k ≤ q .shared .posted
     pub so-far : scanned ≡ after (seen k) (scan (q .buffer) k (rest k))
     pub addresses-are : addresses ≡ padded (addressesOf (seen k))
     pub lengths-are : lengths ≡ padded (lengthsOf (seen k))
@@ -104,12 +104,12 @@ word1-only buffer k x = refl
 
 module _ (q : RxQueue) (ring list addresses lengths : List ℕ) (total k : ℕ) (w : Walked q ring list addresses lengths total k) where
   -- past the posted ones
-  pub at-end : q .posted ≤ k → scanned q ring list ≡ refuse 4
+  pub at-end : q .shared .posted ≤ k → scanned q ring list ≡ refuse 4
   unfolding scan
   at-end h = w .so-far ∙ rw (rest-none q ring list k h) (after-refuse _ _)
 
   -- the slot at distance k, which the code reads at its number
-  module _ (h : k < q .posted) (at : ℕ) (is : at ≡ slotOf q k) where
+  module _ (h : k < q .shared .posted) (at : ℕ) (is : at ≡ slotOf (q .shared) k) where
     abbrev here : Slot
     here = slotIn ring list at
 
@@ -138,11 +138,11 @@ module _ (q : RxQueue) (ring list addresses lengths : List ℕ) (total k : ℕ) 
     more : seen q ring list (k + 1) ≡ seen q ring list k ++ here ∷ []
     more =
         rw (add-one k)
-        (run-snoc (slotIn ring list) (q .size) (q .head) k
+        (run-snoc (slotIn ring list) (q .shared .size) (q .shared .head) k
         ∙ ap (λ (j : ℕ). seen q ring list k ++ slotIn ring list j ∷ []) (sym is))
 
     long : length (seen q ring list k) ≡ k
-    long = length-run (slotIn ring list) (q .size) (q .head) k
+    long = length-run (slotIn ring list) (q .shared .size) (q .shared .head) k
 
     -- what is told of a slot, put at its place
     places-more : (f : Slot → ℕ) (ns : List ℕ) → ns ≡ padded (map f (seen q ring list k)) → set ns k (f here) ≡ padded (map f (seen q ring list (k + 1)))

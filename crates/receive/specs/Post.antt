@@ -1,6 +1,6 @@
 -- Post (01, "Receiving"): its checks in their order, the record and the lent memory after it.
 -- Assumes nothing.
-use Prim.Native.Nat.{ℕ, _+_, _-_}
+use Prim.Native.Nat.{ℕ, _-_}
 use mathlib.Core.Path.{_≡_}
 use mathlib.Core.Bool.{not, cond}
 use mathlib.Core.List.{List, [], _∷_}
@@ -8,10 +8,11 @@ use lib.Dec.{eqb}
 use lib.ListN.{length, set}
 use Rattle.rules.specs.Rules.{Check, _when_, answerOf}
 use Rattle.rules.specs.Address.{addressWrong}
+use Rattle.ring.specs.Queue.{tailOf, grown}
 use Rattle.writeback.specs.WriteBack.{Words}
 use Rattle.receive.specs.declared.RxQueue.{RxQueue}
 use Rattle.receive.specs.declared.Posted.{Posted}
-use Rattle.receive.specs.Queue.{lentOk, tailOf, movedTo}
+use Rattle.receive.specs.Queue.{lentOk, movedTo}
 use Rattle.receive.specs.Slots.{storeWords}
 
 -- 1 the record or a slice's length is wrong, 2 the address is wrong, 3 posted = size - 1
@@ -19,7 +20,7 @@ abbrev pub postChecks : RxQueue → ℕ → ℕ → ℕ → List Check
 postChecks q ringLength listLength address =
     1 when not (lentOk q ringLength listLength)
     ∷ 2 when addressWrong address (q .buffer)
-    ∷ 3 when eqb (q .posted) (q .size - 1)
+    ∷ 3 when eqb (q .shared .posted) (q .shared .size - 1)
     ∷ []
 
 unfoldable pub postAnswer : RxQueue → ℕ → ℕ → ℕ → ℕ
@@ -31,7 +32,7 @@ blank address = record { word0 = address; word1 = 0 }
 
 -- one to posted
 abbrev pub oneMore : RxQueue → RxQueue
-oneMore q = movedTo q (q .head) (q .posted + 1)
+oneMore q = movedTo q (grown (q .shared) 1)
 
 module _ (q : RxQueue) (ring list : List ℕ) (address : ℕ) where
   abbrev pub answerTo : ℕ
@@ -43,10 +44,10 @@ module _ (q : RxQueue) (ring list : List ℕ) (address : ℕ) where
 
   -- the slot at the tail, in the ring and in the companion list
   abbrev pub ringAfter : List ℕ
-  ringAfter = cond (eqb answerTo 0) (storeWords ring (tailOf q) (blank address)) ring
+  ringAfter = cond (eqb answerTo 0) (storeWords ring (tailOf (q .shared)) (blank address)) ring
 
   abbrev pub listAfter : List ℕ
-  listAfter = cond (eqb answerTo 0) (set list (tailOf q) address) list
+  listAfter = cond (eqb answerTo 0) (set list (tailOf (q .shared)) address) list
 
   -- all that post returns and leaves
   pub record PostedAs (r : Posted) (ring′ list′ : List ℕ) : Type 0 where

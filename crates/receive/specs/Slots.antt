@@ -27,4 +27,4 @@ storeWords ring j x = store 2 ring j (x .word0 ∷ x .word1 ∷ [])
 
 -- the slots that are the device's: from head upward, as many as are posted
 unfoldable pub postedSlots : RxQueue → List ℕ → List ℕ → List Slot
-postedSlots q ring list = run (slotIn ring list) (q .size) (q .head) (q .posted)
+postedSlots q ring list = run (slotIn ring list) (q .shared .size) (q .shared .head) (q .shared .posted)

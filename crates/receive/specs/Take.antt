@@ -1,16 +1,17 @@
 -- Take (01, "Receiving"): the device's rules on a packet's slots, what take sees of the posted slots, and what it returns.
 -- Assumes nothing.
-use Prim.Native.Nat.{ℕ, suc, _+_, _-_}
+use Prim.Native.Nat.{ℕ, suc, _+_}
 use mathlib.Core.Bool.{Bool, true, not, _&&_, _||_, cond}
 use mathlib.Core.List.{List, [], _∷_, _++_, map}
 use lib.Dec.{leb, ltb}
 use lib.ListN.{length, take, replicate}
 use Rattle.rules.specs.Rules.{Check, _when_}
+use Rattle.ring.specs.Queue as Ring
 use Rattle.writeback.specs.WriteBack.{Words, dd, eop, lengthOf, writeBackOf, noWriteBack}
 use Rattle.receive.specs.declared.RxQueue.{RxQueue}
 use Rattle.receive.specs.declared.Packet.{Packet}
 use Rattle.receive.specs.declared.Taken.{Taken}
-use Rattle.receive.specs.Queue.{lentOk, slotOf, movedTo}
+use Rattle.receive.specs.Queue.{lentOk, movedTo}
 use Rattle.receive.specs.Slots.{Slot, postedSlots}
 
 -- ---- the device's rules
@@ -120,7 +121,7 @@ noPacket =
 
 -- head moves on by a count, posted falls by it
 abbrev pub advanced : RxQueue → ℕ → RxQueue
-advanced q n = movedTo q (slotOf q n) (q .posted - n)
+advanced q n = movedTo q (Ring.advanced (q .shared) n)
 
 -- a refusal returns the record as it came and the packet of no slots, which is `noPacket`
 unfoldable pub takeBy : Look → RxQueue → Taken

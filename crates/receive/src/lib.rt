@@ -1,4 +1,5 @@
 // The receive queue of the driver core: fresh queues and the tail (queue), post, take.
+use ring::Queue;
 use writeback::WriteBack;
 
 mod post;
@@ -8,23 +9,15 @@ mod take;
 // A packet is 1 to 5 slots.
 const PACKET_SLOTS: usize = 5;
 
+// What every queue's record has, and the size of a buffer.
 pub struct RxQueue {
-    pub queue: usize,
-    pub size: usize,
-    pub head: usize,
-    pub posted: usize,
+    pub shared: Queue,
     pub buffer: usize,
 }
 
 pub struct Fresh {
     pub answer: u8,
     pub queue: RxQueue,
-}
-
-// A number asked of a record, 0 beside a refusal.
-pub struct Asked {
-    pub answer: u8,
-    pub value: usize,
 }
 
 pub struct Posted {

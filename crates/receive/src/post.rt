@@ -1,8 +1,9 @@
 // Post: the answer first, then the slot at the tail.
 ghost use mathlib.Core.Path.{_≡_};
 ghost use lib.ListN.{length};
+ghost use Rattle.ring.specs.Steps.{Grow};
 ghost use Rattle.receive.specs.Post.{postAnswer, oneMore, PostedAs};
-ghost use Rattle.receive.specs.Steps.{Kept, Lent, PutAs};
+ghost use Rattle.receive.specs.Steps.{Lent, PutAs};
 use crate::Posted;
 use crate::RxQueue;
 
@@ -14,7 +15,11 @@ impl RxQueue {
             if rules::address_wrong(address, self.buffer as u64) {
                 2
             } else {
-                if self.posted == self.size - 1 { 3 } else { 0 }
+                if self.shared.posted == self.shared.size - 1 {
+                    3
+                } else {
+                    0
+                }
             }
         } else {
             1
@@ -26,21 +31,18 @@ impl RxQueue {
         requires { ⌜ Lent self (length (now ring)) (length (now list)) ⌝ }
         ensures { λ r. ⌜ PutAs self (now (ring .entry)) (now (list .entry)) address (now (ring .exit)) (now (list .exit)) ⌝ }
     {
-        let tail = ring::slot(self.head, self.size, self.posted);
+        let tail = self.shared.tail();
         ring[2 * tail] = address;
         ring[2 * tail + 1] = 0;
         list[tail] = address;
     }
 
     fn one_more(self) -> RxQueue
-        requires { ⌜ Kept self ⌝ }
+        requires { ⌜ Grow (self .shared) 1 ⌝ }
         ensures { λ r. ⌜ r ≡ oneMore self ⌝ }
     {
         RxQueue {
-            queue: self.queue,
-            size: self.size,
-            head: self.head,
-            posted: self.posted + 1,
+            shared: self.shared.grown(1),
             buffer: self.buffer,
         }
     }

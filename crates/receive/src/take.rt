@@ -3,9 +3,10 @@ ghost use mathlib.Core.Path.{_≡_};
 ghost use Prim.Native.Nat.{_<_};
 ghost use lib.ListN.{length};
 ghost use Rattle.ring.specs.Sizes.{mostSize};
+ghost use Rattle.ring.specs.Steps.{Advance};
 ghost use Rattle.receive.specs.Slots.{postedSlots};
 ghost use Rattle.receive.specs.Take.{Look, allowed, advanced, scan, takeBy, takeOf};
-ghost use Rattle.receive.specs.Steps.{Lent, Handed};
+ghost use Rattle.receive.specs.Steps.{Lent};
 use crate::PACKET_SLOTS;
 use crate::Packet;
 use crate::RxQueue;
@@ -42,18 +43,14 @@ impl RxQueue {
 
     // A packet handed up, and the record without its slots.
     fn handed(self, packet: Packet) -> Taken
-        requires { ⌜ Handed self (packet .count) ⌝ }
+        requires { ⌜ Advance (self .shared) (packet .count) ⌝ }
         ensures { λ r. ⌜ r ≡ record { answer = 0; queue = advanced self (packet .count); packet = packet } ⌝ }
     {
         let count = packet.count;
-        let head = ring::slot(self.head, self.size, count);
         Taken {
             answer: 0,
             queue: RxQueue {
-                queue: self.queue,
-                size: self.size,
-                head,
-                posted: self.posted - count,
+                shared: self.shared.advanced(count),
                 buffer: self.buffer,
             },
             packet,
@@ -64,12 +61,15 @@ impl RxQueue {
         requires { ⌜ Lent self (length (now ring)) (length (now list)) ⌝ }
         ensures { λ r. ⌜ r ≡ takeBy (scan (self .buffer) 0 (postedSlots self (now (ring .entry)) (now (list .entry)))) self ⌝ }
     {
+        let size = self.shared.size;
+        let head = self.shared.head;
+        let posted = self.shared.posted;
         let mut addresses = [0u64; PACKET_SLOTS];
         let mut lengths = [0usize; PACKET_SLOTS];
         let mut total: usize = 0;
         let mut k: usize = 0;
-        while k < self.posted {
-            let at = ring::slot(self.head, self.size, k);
+        while k < posted {
+            let at = ring::slot(head, size, k);
             let first = 2 * at;
             let word1 = ring[first + 1];
             if !writeback::dd(word1) {

@@ -12,11 +12,11 @@ record-ok-requires : tie.Need-record-ok-requires
 record-ok-requires c κs = search needs
 
 mul-result : tie.Need-mul-result
-mul-result c = let h = kept _ (sym (c .before .before .record-ok .ensures) ∙ c .before .if1 .taken) in omega arith
+mul-result c = let h = kept _ (sym (c .before .record-ok .ensures) ∙ c .if1 .taken) in omega arith
 
 returns : tie.Need-returns
 unfolding lentOk
-returns c = rw (sym (c .before .before .before .record-ok .ensures), c .before .before .if1 .taken)
+returns c = rw (sym (c .before .record-ok .ensures), c .if1 .taken)
 
 returns-2 : tie.Need-returns-2
 unfolding lentOk

@@ -7,8 +7,8 @@ use borrow.Author.Needs.{needs}
 use Rattle.receive.proofs.RxQueue.put.Statement.{statement}
 use Rattle.receive.proofs.RxQueue.put.Tie as tie
 
-slot-requires : tie.Need-slot-requires
-slot-requires c κs = search needs
+tail-requires : tie.Need-tail-requires
+tail-requires c κs = search needs
 
 mul-ring : tie.Need-mul-ring
 mul-ring c = search needs
@@ -44,13 +44,13 @@ same-length-2 : tie.Need-same-length-2
 same-length-2 c = search needs
 
 returns : tie.Need-returns
-returns c = rw (c .slot .ensures .is) (record { ring-is = refl; list-is = refl })
+returns c = rw (c .tail .ensures .is) (record { ring-is = refl; list-is = refl })
 
 pub put-spec : {M : Type 1} → statement M
 put-spec =
     tie.close
     (tie.spec
-    slot-requires
+    tail-requires
     mul-ring
     mul-ring-2
     slice-write-ring
