@@ -2,34 +2,33 @@
 -- refused with 3 is accepted once there are slots enough, and 8 is no matter of a plain send.
 -- Assumes nothing.
 use Prim.Native.Nat.{ℕ, zero, suc, _≤_, _<_}
-use mathlib.Core.Path.{_≡_, refl}
+use mathlib.Core.Path.{_≡_, refl, ap, _∙_}
 use mathlib.Core.Logic.{_≢_}
-use mathlib.Core.Bool.{true, false, not}
+use mathlib.Core.Bool.{Bool, true, false, not, _&&_}
 use mathlib.Core.List.{List, [], _∷_}
 use native.Mathlib.Omega.{arith}
 use borrow.Author.Tests.{le-ltb, not-false}
 use Rattle.rules.specs.Rules.{Check, _when_, answerOf, nth, Answers}
 use Rattle.rules.proofs.Checks.{has-cause, is-answered, one-check, passed, passes}
+use Rattle.ring.specs.Sizes.{queueOk}
+use Rattle.ring.proofs.Record.{empty-ok}
 use Rattle.segments.specs.Touch.{mostTouched, touched}
 use Rattle.offload.specs.declared.Request.{Request}
 use Rattle.offload.proofs.Causes.{plain-touches}
 use Rattle.transmit.specs.declared.TxQueue.{TxQueue}
 use Rattle.transmit.specs.declared.Fresh.{Fresh}
-use Rattle.transmit.specs.declared.Asked.{Asked}
-use Rattle.transmit.specs.Queue.{numbersOk, recordOk, emptyQueue, freshOf, askedOf}
+use Rattle.transmit.specs.Queue.{frameOk, recordOk, emptyQueue, freshOf}
 use Rattle.transmit.specs.Send.{freeSlots, slotsTaken, sendChecks, sendAnswer}
 use Rattle.transmit.specs.Reclaim.{reclaimChecks, reclaimAnswer}
 use Rattle.transmit.proofs.Laws.{lent-same}
 
--- ---- one check alone: fresh, and a number asked of a record, answer 1 exactly if a line is broken
+-- ---- one check alone: fresh answers 1 exactly if a number breaks its line
 
-pub fresh-answer : (queue size frame : ℕ) → freshOf queue size frame .answer ≡ answerOf (1 when not (numbersOk queue size frame) ∷ [])
-unfolding freshOf
-fresh-answer queue size frame = one-check (λ (f : Fresh). f .answer) (numbersOk queue size frame) (record { answer = 0; queue = emptyQueue queue size frame }) (record { answer = 1; queue = emptyQueue 0 0 0 }) refl refl
-
-pub asked-answer : (q : TxQueue) (n : ℕ) → askedOf q n .answer ≡ answerOf (1 when not (recordOk q) ∷ [])
-unfolding askedOf
-asked-answer q n = one-check (λ (a : Asked). a .answer) (recordOk q) (record { answer = 0; value = n }) (record { answer = 1; value = 0 }) refl refl
+pub fresh-answer : (queue size frame : ℕ) → freshOf queue size frame .answer ≡ answerOf (1 when not (queueOk queue size && frameOk frame) ∷ [])
+unfolding freshOf recordOk
+fresh-answer queue size frame =
+    one-check (λ (f : Fresh). f .answer) (recordOk (emptyQueue queue size frame)) (record { answer = 0; queue = emptyQueue queue size frame }) (record { answer = 1; queue = emptyQueue 0 0 0 }) refl refl
+    ∙ ap (λ (ok : Bool). answerOf (1 when not (ok && frameOk frame) ∷ [])) (empty-ok queue size)
 
 -- ---- reclaim: 1, 4, 5, 4
 
@@ -75,7 +74,7 @@ module _ (q : TxQueue) (ringLength tokensLength countsLength : ℕ) (addresses l
   by-last (suc (suc (suc (suc (suc (suc i)))))) a = absurd (omega (arith, a .within-list))
 
   -- retry: refused with 3, it gets 0 on any accepted record of the same size and frame whose free slots reach what it needs
-  module _ (q′ : TxQueue) (ok : recordOk q′ ≡ true) (same-size : q′ .size ≡ q .size) (same-frame : q′ .frame ≡ q .frame) (room : slotsTaken request lengths ≤ freeSlots q′) where
+  module _ (q′ : TxQueue) (ok : recordOk q′ ≡ true) (same-size : q′ .shared .size ≡ q .shared .size) (same-frame : q′ .frame ≡ q .frame) (room : slotsTaken request lengths ≤ freeSlots q′) where
     abbrev now-asked : List Check
     now-asked = sendChecks q′ ringLength tokensLength countsLength addresses lengths request
 

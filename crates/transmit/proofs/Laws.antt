@@ -1,6 +1,6 @@
 -- What an accepted record, accepted lent slices, an accepted send and an accepted reclaim are, as facts.
 -- Assumes nothing.
-use Prim.Native.Nat.{ℕ, _+_, _*_, _≤_}
+use Prim.Native.Nat.{ℕ, _*_, _^_, _≤_, _<_}
 use mathlib.Core.Path.{_≡_, refl, sym, _∙_}
 use mathlib.Core.Bool.{Bool, true, false, _&&_, _||_, cond, true≢false}
 use mathlib.Core.List.{List, [], _∷_, _++_}
@@ -8,50 +8,54 @@ use native.Mathlib.Omega.{arith}
 use borrow.Author.Tests.{eqb-true, eqb-false, ltb-false, not-false}
 use lib.Dec.{T, ltb, eqb}
 use lib.ListN.{length}
-use Rattle.rules.specs.Rules.{within, Check, _when_, answerOf, refusing}
+use Rattle.rules.specs.Rules.{Check, _when_, answerOf, refusing}
 use Rattle.rules.proofs.Tests.{both, within-is}
 use Rattle.rules.proofs.Checks.{passed}
-use Rattle.ring.specs.Sizes.{queueOk, placeOk}
-use Rattle.ring.proofs.Lines.{placed}
+use Rattle.ring.specs.Sizes.{tailBits}
+use Rattle.ring.specs.Queue.{sharedOk}
+use Rattle.ring.proofs.Record.{shared, tail-fits, asked-below}
 use Rattle.offload.specs.declared.Request.{Request}
 use Rattle.offload.specs.Offload.{packetChecks}
 use Rattle.offload.specs.Accepted.{Accepted}
 use Rattle.offload.proofs.Accepted.{accepted}
 use Rattle.offload.proofs.Causes.{asked-next}
 use Rattle.transmit.specs.declared.TxQueue.{TxQueue}
-use Rattle.transmit.specs.Queue.{leastFrame, mostFrame, numbersOk, recordOk, lentOk}
+use Rattle.transmit.specs.Queue.{leastFrame, mostFrame, frameOk, recordOk, lentOk, tailValueOf}
 use Rattle.transmit.specs.Steps.{Kept, Lent}
 use Rattle.transmit.specs.Send.{freeSlots, slotsTaken, sendChecks, sendAnswer}
 use Rattle.transmit.specs.Reclaim.{countAt, reclaimChecks, reclaimAnswer}
 
-pub kept : (q : TxQueue) → recordOk q ≡ true → Kept q
+-- the two parts of the test
+pub lines : (q : TxQueue) → recordOk q ≡ true → (sharedOk (q .shared) ≡ true) × (frameOk (q .frame) ≡ true)
 unfolding recordOk
+lines q e = both (sharedOk (q .shared)) (frameOk (q .frame)) e
+
+pub kept : (q : TxQueue) → recordOk q ≡ true → Kept q
 kept q e =
-    let a = both (numbersOk (q .queue) (q .size) (q .frame)) (placeOk (q .size) (q .head) (q .posted)) e in
-    let n = both (queueOk (q .queue) (q .size)) (within leastFrame mostFrame (q .frame)) (a .0) in
-    let f = within-is leastFrame mostFrame (q .frame) (n .1) in
-    record {
-      place = placed (q .queue) (q .size) (q .head) (q .posted) (n .0) (a .1);
-      frame-low = f .0;
-      frame-high = f .1;
-    }
+    let l = lines q e in
+    let f = within-is leastFrame mostFrame (q .frame) (l .1) in
+    record { shared-is = shared (q .shared) (l .0); frame-low = f .0; frame-high = f .1 }
+
+-- the tail value fits its field
+pub tail-value-fits : (q : TxQueue) → tailValueOf q .value < 2 ^ tailBits
+tail-value-fits q = asked-below (recordOk q) _ _ (omega arith) (λ e. tail-fits (q .shared) (kept q e .shared-is))
 
 module _ (q : TxQueue) (ringLength tokensLength countsLength : ℕ) (e : lentOk q ringLength tokensLength countsLength ≡ true) where
-  apart : (recordOk q ≡ true) × (eqb ringLength (2 * q .size) && (eqb tokensLength (q .size) && eqb countsLength (q .size)) ≡ true)
+  apart : (recordOk q ≡ true) × (eqb ringLength (2 * q .shared .size) && (eqb tokensLength (q .shared .size) && eqb countsLength (q .shared .size)) ≡ true)
   unfolding lentOk
-  apart = both (recordOk q) (eqb ringLength (2 * q .size) && (eqb tokensLength (q .size) && eqb countsLength (q .size))) e
+  apart = both (recordOk q) (eqb ringLength (2 * q .shared .size) && (eqb tokensLength (q .shared .size) && eqb countsLength (q .shared .size))) e
 
   pub lent-record : recordOk q ≡ true
   lent-record = apart .0
 
   pub lent : Lent q ringLength tokensLength countsLength
   lent =
-      let r = both (eqb ringLength (2 * q .size)) (eqb tokensLength (q .size) && eqb countsLength (q .size)) (apart .1) in
-      let l = both (eqb tokensLength (q .size)) (eqb countsLength (q .size)) (r .1) in
+      let r = both (eqb ringLength (2 * q .shared .size)) (eqb tokensLength (q .shared .size) && eqb countsLength (q .shared .size)) (apart .1) in
+      let l = both (eqb tokensLength (q .shared .size)) (eqb countsLength (q .shared .size)) (r .1) in
       record { is = kept q (apart .0); ring-long = eqb-true _ _ (r .0); tokens-long = eqb-true _ _ (l .0); counts-long = eqb-true _ _ (l .1) }
 
   -- slices of a size's lengths are right for every accepted record of that size
-  pub lent-same : (q′ : TxQueue) → recordOk q′ ≡ true → q′ .size ≡ q .size → lentOk q′ ringLength tokensLength countsLength ≡ true
+  pub lent-same : (q′ : TxQueue) → recordOk q′ ≡ true → q′ .shared .size ≡ q .shared .size → lentOk q′ ringLength tokensLength countsLength ≡ true
   unfolding lentOk
   lent-same q′ ok s = rw (ok, s) (apart .1)
 
@@ -89,11 +93,11 @@ neither false b e = (refl, e)
 -- a count that a packet of the posted slots can have
 pub record Counted (q : TxQueue) (counts : List ℕ) : Type 0 where
   pub some : 1 ≤ countAt q counts
-  pub most : countAt q counts ≤ q .posted
+  pub most : countAt q counts ≤ q .shared .posted
 
-pub counted : (q : TxQueue) (counts : List ℕ) → eqb (countAt q counts) 0 || ltb (q .posted) (countAt q counts) ≡ false → Counted q counts
+pub counted : (q : TxQueue) (counts : List ℕ) → eqb (countAt q counts) 0 || ltb (q .shared .posted) (countAt q counts) ≡ false → Counted q counts
 counted q counts e =
-    let n = neither (eqb (countAt q counts) 0) (ltb (q .posted) (countAt q counts)) e in
+    let n = neither (eqb (countAt q counts) 0) (ltb (q .shared .posted) (countAt q counts)) e in
     record { some = omega (arith, eqb-false (countAt q counts) 0 (n .0)); most = ltb-false _ _ (n .1) }
 
 module _ (q : TxQueue) (ring tokens counts : List ℕ) where

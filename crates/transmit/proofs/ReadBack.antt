@@ -5,14 +5,16 @@ use Prim.Native.Nat.{ℕ, _+_, _-_, _%_, _^_, _<_}
 use mathlib.Core.Path.{_≡_, refl, sym, ap, ap₂, _∙_}
 use mathlib.Core.Bool.{Bool, true, false, cond}
 use mathlib.Core.List.{List}
-use native.Mathlib.Nat.{add-zero, mod-lt, mod-eq-of-lt}
+use native.Mathlib.Nat.{add-zero, mod-eq-of-lt}
 use native.Mathlib.Omega.{arith}
 use borrow.Author.Tests.{eq-eqb}
 use lib.Dec.{eqb}
 use lib.ListN.{length, getD}
 use Rattle.ring.specs.Slots.{slotAt}
+use Rattle.ring.specs.Queue.{tailOf}
 use Rattle.ring.specs.Memory.{numbersAt, storeRun}
 use Rattle.ring.proofs.Rows.{row-reads}
+use Rattle.ring.proofs.Record.{tail-below}
 use Rattle.descriptor.specs.declared.Data.{Data}
 use Rattle.descriptor.specs.Words.{typeLine, readAt, dataWord, readData, contextWord, readContext}
 use Rattle.descriptor.proofs.Bits.{data-type, context-type}
@@ -23,7 +25,6 @@ use Rattle.offload.proofs.Back.{piece-back, segmentation-back, request-back}
 use Rattle.fill.specs.Descriptors.{isLast, pieceNumbers, contextNumbers, descriptor}
 use Rattle.fill.proofs.Places.{two-words, context-first, piece-at, slots-more}
 use Rattle.transmit.specs.declared.TxQueue.{TxQueue}
-use Rattle.transmit.specs.Queue.{tailOf}
 use Rattle.transmit.specs.Send.{answerTo, slotsTaken, ringAfter}
 use Rattle.transmit.specs.Reclaim.{isMarked}
 use Rattle.transmit.specs.ReadBack.{word0, word1, isContext, requestAt, pieceSlot, Says}
@@ -37,20 +38,24 @@ module _ (q : TxQueue) (ring tokens counts addresses lengths : List ℕ) (reques
   abbrev n : ℕ
   n = length lengths
 
-  after-is : after ≡ storeRun 2 (q .size) (descriptor request addresses lengths) ring (tailOf q) (slotsOf request n)
+  -- the packet's first slot, the old tail
+  abbrev first : ℕ
+  first = tailOf (q .shared)
+
+  after-is : after ≡ storeRun 2 (q .shared .size) (descriptor request addresses lengths) ring first (slotsOf request n)
   after-is = left ∙ rw (eq-eqb (answerTo q ring tokens counts addresses lengths request) 0 done)
 
   -- the slot that is k slots after the old tail has descriptor k
-  pub slot-reads : (k : ℕ) → k < slotsTaken request lengths → numbersAt 2 after (slotAt (tailOf q) (q .size) k) ≡ descriptor request addresses lengths k
+  pub slot-reads : (k : ℕ) → k < slotsTaken request lengths → numbersAt 2 after (slotAt (tailOf (q .shared)) (q .shared .size) k) ≡ descriptor request addresses lengths k
   slot-reads k l =
-      ap (λ (m : List ℕ). numbersAt 2 m (slotAt (tailOf q) (q .size) k)) after-is
-      ∙ row-reads 2 (q .size) (descriptor request addresses lengths) ring (tailOf q) (two-words request addresses lengths) (facts .lent-is .ring-long) (slotsOf request n) k (omega (arith, facts .room, facts .lent-is .is .place)) l
+      ap (λ (m : List ℕ). numbersAt 2 m (slotAt first (q .shared .size) k)) after-is
+      ∙ row-reads 2 (q .shared .size) (descriptor request addresses lengths) ring first (two-words request addresses lengths) (facts .lent-is .ring-long) (slotsOf request n) k (omega (arith, facts .room, facts .lent-is .is .shared-is)) l
 
-  piece-reads : (i : ℕ) → i < n → numbersAt 2 after (pieceSlot (q .size) (tailOf q) request i) ≡ pieceNumbers request addresses lengths i
+  piece-reads : (i : ℕ) → i < n → numbersAt 2 after (pieceSlot (q .shared .size) first request i) ≡ pieceNumbers request addresses lengths i
   piece-reads i l = slot-reads (slotsOf request i) (slots-more request l) ∙ piece-at request addresses lengths i
 
   abbrev here : ℕ → ℕ
-  here i = pieceSlot (q .size) (tailOf q) request i
+  here i = pieceSlot (q .shared .size) first request i
 
   abbrev data-at : ℕ → Data
   data-at i = dataOf request (getD lengths i 0) (isLast lengths i)
@@ -63,49 +68,48 @@ module _ (q : TxQueue) (ring tokens counts addresses lengths : List ℕ) (reques
       ap readData (piece-word i l)
       ∙ piece-back (q .frame) request (facts .own .sound) (getD lengths i 0) (isLast lengths i) (facts .own .each i l .1)
 
-  -- the old tail is the first slot
-  first-slot : slotAt (tailOf q) (q .size) 0 ≡ tailOf q
-  first-slot = ap (λ (k : ℕ). k % q .size) (add-zero (tailOf q)) ∙ mod-eq-of-lt (mod-lt (q .head + q .posted) (omega (arith, facts .lent-is .is .place)))
+  first-slot : slotAt first (q .shared .size) 0 ≡ first
+  first-slot = ap (λ (k : ℕ). k % q .shared .size) (add-zero first) ∙ mod-eq-of-lt (tail-below (q .shared) (facts .lent-is .is .shared-is))
 
-  first-reads : numbersAt 2 after (tailOf q) ≡ descriptor request addresses lengths 0
+  first-reads : numbersAt 2 after first ≡ descriptor request addresses lengths 0
   first-reads =
       ap (numbersAt 2 after) (sym first-slot)
       ∙ slot-reads 0 (omega (arith, facts .own .some, slots-are request n))
 
-  context-says : request .segmented ≡ true → (word0 after (tailOf q) ≡ 0) × (word1 after (tailOf q) ≡ contextWord (contextOf request))
+  context-says : request .segmented ≡ true → (word0 after first ≡ 0) × (word1 after first ≡ contextWord (contextOf request))
   context-says t =
-      let e : numbersAt 2 after (tailOf q) ≡ contextNumbers request = first-reads ∙ context-first request addresses lengths t in
+      let e : numbersAt 2 after first ≡ contextNumbers request = first-reads ∙ context-first request addresses lengths t in
       (ap (λ (ns : List ℕ). getD ns 0 0) e, ap (λ (ns : List ℕ). getD ns 1 0) e)
 
   frame-fits : q .frame < 2 ^ 14
   frame-fits = omega (arith, facts .lent-is .is)
 
-  context-back : request .segmented ≡ true → readContext (word1 after (tailOf q)) ≡ contextOf request
+  context-back : request .segmented ≡ true → readContext (word1 after first) ≡ contextOf request
   context-back t = ap readContext (context-says t .1) ∙ segmentation-back (q .frame) request (facts .own .sound) frame-fits
 
   -- a plain send's first slot is that of piece 0
-  plain-first : request .segmented ≡ false → word1 after (tailOf q) ≡ dataWord (data-at 0)
+  plain-first : request .segmented ≡ false → word1 after first ≡ dataWord (data-at 0)
   plain-first f =
       let e : descriptor request addresses lengths 0 ≡ pieceNumbers request addresses lengths 0 = rw f in
       ap (λ (ns : List ℕ). getD ns 1 0) (first-reads ∙ e)
 
   -- the first slot's type tells whether the send is segmented
-  type-says : isContext after (tailOf q) ≡ request .segmented
+  type-says : isContext after first ≡ request .segmented
   type-says = go (request .segmented) refl
     where
-      by-type : (w : ℕ) {t : ℕ} → word1 after (tailOf q) ≡ w → readAt typeLine w ≡ t → isContext after (tailOf q) ≡ eqb t 1
+      by-type : (w : ℕ) {t : ℕ} → word1 after first ≡ w → readAt typeLine w ≡ t → isContext after first ≡ eqb t 1
       by-type w e h = ap (λ (v : ℕ). eqb (readAt typeLine v) 1) e ∙ ap (λ (k : ℕ). eqb k 1) h
 
-      go : (b : Bool) → request .segmented ≡ b → isContext after (tailOf q) ≡ b
+      go : (b : Bool) → request .segmented ≡ b → isContext after first ≡ b
       go true t = by-type (contextWord (contextOf request)) (context-says t .1) (context-type (contextOf request))
       go false f = by-type (dataWord (data-at 0)) (plain-first f) (data-type (data-at 0))
 
-  request-says : (i : ℕ) → i < n → requestAt after (tailOf q) (here i) ≡ request
+  request-says : (i : ℕ) → i < n → requestAt after first (here i) ≡ request
   request-says i l =
-      ap₂ (λ (b : Bool) (w : ℕ). requestOf b (readContext (word1 after (tailOf q))) (readData w)) type-says (piece-word i l)
-      ∙ request-back (q .frame) request (facts .own .sound) (readContext (word1 after (tailOf q))) (getD lengths i 0) (isLast lengths i) (facts .own .each i l .1) frame-fits (λ t. ap readContext (context-says t .1))
+      ap₂ (λ (b : Bool) (w : ℕ). requestOf b (readContext (word1 after first)) (readData w)) type-says (piece-word i l)
+      ∙ request-back (q .frame) request (facts .own .sound) (readContext (word1 after first)) (getD lengths i 0) (isLast lengths i) (facts .own .each i l .1) frame-fits (λ t. ap readContext (context-says t .1))
 
-  pub reads-back : Says after (q .size) (tailOf q) addresses lengths request
+  pub reads-back : Says after (q .shared .size) (tailOf (q .shared)) addresses lengths request
   reads-back =
       record {
         address-at = λ i l. ap (λ (ns : List ℕ). getD ns 0 0) (piece-reads i l);
@@ -117,11 +121,11 @@ module _ (q : TxQueue) (ring tokens counts addresses lengths : List ℕ) (reques
       }
 
   -- a mark that the device left on an earlier lap is gone
-  pub not-marked : isMarked after (slotAt (tailOf q) (q .size) (slotsTaken request lengths - 1)) ≡ false
+  pub not-marked : isMarked after (slotAt (tailOf (q .shared)) (q .shared .size) (slotsTaken request lengths - 1)) ≡ false
   not-marked =
       let i : ℕ = n - 1 in
       let e : slotsOf request n - 1 ≡ slotsOf request i = last-slot (request .segmented) in
-      ap (λ (k : ℕ). isMarked after (slotAt (tailOf q) (q .size) k)) e
+      ap (λ (k : ℕ). isMarked after (slotAt first (q .shared .size) k)) e
       ∙ ap (λ (w : ℕ). eqb (readAt typeLine w) 15) (piece-word i (omega (arith, facts .own .some)))
       ∙ ap (λ (k : ℕ). eqb k 15) (data-type (data-at i))
     where

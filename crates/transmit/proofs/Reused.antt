@@ -43,13 +43,13 @@ module _ (q : TxQueue) (ring tokens counts : List ℕ) (done : reclaimOf q ring 
   pub reclaim-frees : Freed q (reclaimOf q ring tokens counts)
   reclaim-frees =
       let count : reclaimOf q ring tokens counts .count ≡ countAt q counts = ap (λ (r : Reclaimed). r .count) is-done in
-      let free : freeSlots (reclaimOf q ring tokens counts .queue) ≡ q .size - 1 - (q .posted - countAt q counts) = ap (λ (r : Reclaimed). freeSlots (r .queue)) is-done in
+      let free : freeSlots (reclaimOf q ring tokens counts .queue) ≡ q .shared .size - 1 - (q .shared .posted - countAt q counts) = ap (λ (r : Reclaimed). freeSlots (r .queue)) is-done in
       record {
         accepted = reclaim-keeps q (lent-record q (length ring) (length tokens) (length counts) (facts .lent-ok)) ring tokens counts;
-        size-same = ap (λ (r : Reclaimed). r .queue .size) is-done;
+        size-same = ap (λ (r : Reclaimed). r .queue .shared .size) is-done;
         frame-same = ap (λ (r : Reclaimed). r .queue .frame) is-done;
         some = omega (arith, facts .count-is .some);
-        more = omega (arith, facts .count-is .most, facts .lent-is .is .place);
+        more = omega (arith, facts .count-is .most, facts .lent-is .is .shared-is);
       }
 
   -- tried again on the record that the reclaim gave back, with slices of any lengths

@@ -8,9 +8,10 @@ use lib.Dec.{ltb, eqb}
 use lib.ListN.{length, getD}
 use Rattle.rules.specs.Rules.{Check, _when_, answerOf}
 use Rattle.field.specs.Field.{fieldOf}
+use Rattle.ring.specs.Queue.{slotOf, advanced}
 use Rattle.transmit.specs.declared.TxQueue.{TxQueue}
 use Rattle.transmit.specs.declared.Reclaimed.{Reclaimed}
-use Rattle.transmit.specs.Queue.{recordOk, lentOk, slotOf, movedTo}
+use Rattle.transmit.specs.Queue.{recordOk, lentOk, movedTo}
 use Rattle.transmit.specs.Send.{freeSlots}
 
 -- bits 3:0 of word 1 of a slot are 15: the device has marked it done
@@ -19,17 +20,17 @@ isMarked ring s = eqb (fieldOf 0 4 (getD ring (2 * s + 1) 0)) 15
 
 -- the slot count and the token at head, and the packet's last slot
 abbrev pub countAt : TxQueue → List ℕ → ℕ
-countAt q counts = getD counts (q .head) 0
+countAt q counts = getD counts (q .shared .head) 0
 
 abbrev pub tokenAt : TxQueue → List ℕ → ℕ
-tokenAt q tokens = getD tokens (q .head) 0
+tokenAt q tokens = getD tokens (q .shared .head) 0
 
 abbrev pub lastSlot : TxQueue → List ℕ → ℕ
-lastSlot q counts = slotOf q (countAt q counts - 1)
+lastSlot q counts = slotOf (q .shared) (countAt q counts - 1)
 
 -- done: token and count come back, and head moves on
 abbrev pub reclaimDone : TxQueue → ℕ → ℕ → Reclaimed
-reclaimDone q token count = record { answer = 0; queue = movedTo q (slotOf q count) (q .posted - count); token = token; count = count }
+reclaimDone q token count = record { answer = 0; queue = movedTo q (advanced (q .shared) count); token = token; count = count }
 
 -- refused: the record as it came, and zeros
 abbrev pub reclaimRefused : TxQueue → ℕ → Reclaimed
@@ -40,8 +41,8 @@ module _ (q : TxQueue) (ring tokens counts : List ℕ) where
   abbrev pub reclaimChecks : List Check
   reclaimChecks =
       (1 when not (lentOk q (length ring) (length tokens) (length counts)))
-      ∷ (4 when eqb (q .posted) 0)
-      ∷ (5 when (eqb (countAt q counts) 0 || ltb (q .posted) (countAt q counts)))
+      ∷ (4 when eqb (q .shared .posted) 0)
+      ∷ (5 when (eqb (countAt q counts) 0 || ltb (q .shared .posted) (countAt q counts)))
       ∷ (4 when not (isMarked ring (lastSlot q counts)))
       ∷ []
 
@@ -55,7 +56,7 @@ module _ (q : TxQueue) (ring tokens counts : List ℕ) where
 -- reclaimed slots can be used again: an accepted record of the same queue, with as many free slots more as came back
 pub record Freed (q : TxQueue) (r : Reclaimed) : Type 0 where
   pub accepted : recordOk (r .queue) ≡ true
-  pub size-same : r .queue .size ≡ q .size
+  pub size-same : r .queue .shared .size ≡ q .shared .size
   pub frame-same : r .queue .frame ≡ q .frame
   pub some : 1 ≤ r .count
   pub more : freeSlots (r .queue) ≡ freeSlots q + r .count

@@ -1,6 +1,6 @@
 -- Send (01, "Sending"): its checks in their order, the record and the lent memory after it.
 -- Assumes nothing.
-use Prim.Native.Nat.{ℕ, _+_, _-_}
+use Prim.Native.Nat.{ℕ, _-_}
 use mathlib.Core.Path.{_≡_}
 use mathlib.Core.Bool.{not, cond}
 use mathlib.Core.List.{List, [], _∷_, _++_}
@@ -8,17 +8,18 @@ use lib.Dec.{ltb, eqb}
 use lib.ListN.{length, getD, set}
 use Rattle.rules.specs.Rules.{Check, _when_, answerOf}
 use Rattle.ring.specs.Memory.{numbersAt, storeRun}
+use Rattle.ring.specs.Queue.{slotOf, tailOf, grown}
 use Rattle.offload.specs.declared.Request.{Request}
 use Rattle.offload.specs.Request.{slotsOf}
 use Rattle.offload.specs.Offload.{packetChecks}
 use Rattle.fill.specs.Descriptors.{descriptor}
 use Rattle.transmit.specs.declared.TxQueue.{TxQueue}
 use Rattle.transmit.specs.declared.Sent.{Sent}
-use Rattle.transmit.specs.Queue.{lentOk, slotOf, tailOf, movedTo}
+use Rattle.transmit.specs.Queue.{lentOk, movedTo}
 
 -- slots that a send may still take
 abbrev pub freeSlots : TxQueue → ℕ
-freeSlots q = q .size - 1 - q .posted
+freeSlots q = q .shared .size - 1 - q .shared .posted
 
 -- the slots that a send of such pieces needs, and takes
 abbrev pub slotsTaken : Request → List ℕ → ℕ
@@ -36,7 +37,7 @@ sendAnswer q ringLength tokensLength countsLength addresses lengths request =
 
 -- done: posted grows by the slots
 abbrev pub sendDone : TxQueue → ℕ → Sent
-sendDone q slots = record { answer = 0; queue = movedTo q (q .head) (q .posted + slots); slots = slots }
+sendDone q slots = record { answer = 0; queue = movedTo q (grown (q .shared) slots); slots = slots }
 
 -- refused: the record as it came, and no slots
 abbrev pub sendRefused : TxQueue → ℕ → Sent
@@ -53,13 +54,13 @@ module _ (q : TxQueue) (ring tokens counts addresses lengths : List ℕ) (reques
   -- the descriptors from the tail upward, the token and the slot count at the packet's first slot; all other places stay
   abbrev pub ringAfter : List ℕ
   ringAfter =
-      cond (eqb answerTo 0) (storeRun 2 (q .size) (descriptor request addresses lengths) ring (tailOf q) (slotsTaken request lengths)) ring
+      cond (eqb answerTo 0) (storeRun 2 (q .shared .size) (descriptor request addresses lengths) ring (tailOf (q .shared)) (slotsTaken request lengths)) ring
 
   abbrev pub tokensAfter : ℕ → List ℕ
-  tokensAfter token = cond (eqb answerTo 0) (set tokens (tailOf q) token) tokens
+  tokensAfter token = cond (eqb answerTo 0) (set tokens (tailOf (q .shared)) token) tokens
 
   abbrev pub countsAfter : List ℕ
-  countsAfter = cond (eqb answerTo 0) (set counts (tailOf q) (slotsTaken request lengths)) counts
+  countsAfter = cond (eqb answerTo 0) (set counts (tailOf (q .shared)) (slotsTaken request lengths)) counts
 
   -- all that send returns and leaves
   pub record SentAs (token : ℕ) (r : Sent) (ring′ tokens′ counts′ : List ℕ) : Type 0 where
@@ -77,9 +78,9 @@ module _ (q : TxQueue) (ring tokens counts addresses lengths : List ℕ) (reques
 
   -- the slot at distance k from head reads as it did, and so do its token and its count
   pub record Stays (token k : ℕ) : Type 0 where
-    pub words-same : numbersAt 2 ringAfter (slotOf q k) ≡ numbersAt 2 ring (slotOf q k)
-    pub token-same : getD (tokensAfter token) (slotOf q k) 0 ≡ getD tokens (slotOf q k) 0
-    pub count-same : getD countsAfter (slotOf q k) 0 ≡ getD counts (slotOf q k) 0
+    pub words-same : numbersAt 2 ringAfter (slotOf (q .shared) k) ≡ numbersAt 2 ring (slotOf (q .shared) k)
+    pub token-same : getD (tokensAfter token) (slotOf (q .shared) k) 0 ≡ getD tokens (slotOf (q .shared) k) 0
+    pub count-same : getD countsAfter (slotOf (q .shared) k) 0 ≡ getD counts (slotOf (q .shared) k) 0
 
 -- what a send returns and leaves, as one
 pub record Outcome : Type 0 where

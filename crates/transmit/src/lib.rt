@@ -3,23 +3,17 @@ mod queue;
 mod reclaim;
 mod send;
 
+use ring::Queue;
+
+// What the receive queue has too, and the maximum frame, which is the transmit queue's own.
 pub struct TxQueue {
-    pub queue: usize,
-    pub size: usize,
-    pub head: usize,
-    pub posted: usize,
+    pub shared: Queue,
     pub frame: usize,
 }
 
 pub struct Fresh {
     pub answer: u8,
     pub queue: TxQueue,
-}
-
-// A number asked of a record, 0 beside a refusal.
-pub struct Asked {
-    pub answer: u8,
-    pub value: usize,
 }
 
 // The slots that an accepted send took.

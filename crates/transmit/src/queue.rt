@@ -1,47 +1,34 @@
 // The record's lines, a fresh queue, the tail value and its register.
 ghost use mathlib.Core.Path.{_≡_};
-ghost use Rattle.transmit.specs.Queue.{numbersOk, recordOk, lentOk, movedTo, freshOf, tailValueOf, tailRegisterOf};
-use crate::Asked;
+ghost use Rattle.transmit.specs.Queue.{recordOk, lentOk, freshOf, tailValueOf, tailRegisterOf};
 use crate::Fresh;
 use crate::TxQueue;
+use ring::Asked;
+use ring::Queue;
 
 const FRAME_LEAST: usize = 1518;
 
 const FRAME_MOST: usize = 9728;
 
-// The tail register of queue 0 stands at 0, and the next queue's four bytes further.
-const TAIL_STEP: usize = 4;
-
-fn numbers_ok(queue: usize, size: usize, frame: usize) -> bool
-    ensures { λ r. ⌜ r ≡ numbersOk queue size frame ⌝ }
-{
-    ring::queue_ok(queue, size) & ((FRAME_LEAST <= frame) & (frame <= FRAME_MOST))
-}
+// The tail register of queue 0.
+const TAIL_REGISTER: u16 = 0;
 
 impl TxQueue {
     // Answers 1 and an all-zero record, if a number breaks its line, or 0.
     pub fn fresh(queue: usize, size: usize, frame: usize) -> Fresh
         ensures { λ r. ⌜ r ≡ freshOf queue size frame ⌝ }
     {
-        if numbers_ok(queue, size, frame) {
-            Fresh {
-                answer: 0,
-                queue: TxQueue {
-                    queue,
-                    size,
-                    head: 0,
-                    posted: 0,
-                    frame,
-                },
-            }
+        let queue = TxQueue {
+            shared: Queue::empty(queue, size),
+            frame,
+        };
+        if queue.record_ok() {
+            Fresh { answer: 0, queue }
         } else {
             Fresh {
                 answer: 1,
                 queue: TxQueue {
-                    queue: 0,
-                    size: 0,
-                    head: 0,
-                    posted: 0,
+                    shared: Queue::empty(0, 0),
                     frame: 0,
                 },
             }
@@ -51,8 +38,8 @@ impl TxQueue {
     fn record_ok(self) -> bool
         ensures { λ r. ⌜ r ≡ recordOk self ⌝ }
     {
-        numbers_ok(self.queue, self.size, self.frame)
-            & ring::place_ok(self.size, self.head, self.posted)
+        let frame = self.frame;
+        self.shared.ok() & ((FRAME_LEAST <= frame) & (frame <= FRAME_MOST))
     }
 
     // The record, and the lengths of the lent slices.
@@ -64,7 +51,7 @@ impl TxQueue {
     ) -> bool
         ensures { λ r. ⌜ r ≡ lentOk self «ring_length» «tokens_length» «counts_length» ⌝ }
     {
-        let size = self.size;
+        let size = self.shared.size;
         if self.record_ok() {
             (ring_length == 2 * size) & ((tokens_length == size) & (counts_length == size))
         } else {
@@ -72,49 +59,17 @@ impl TxQueue {
         }
     }
 
-    pub(crate) fn moved_to(self, head: usize, posted: usize) -> TxQueue
-        ensures { λ r. ⌜ r ≡ movedTo self head posted ⌝ }
-    {
-        TxQueue {
-            queue: self.queue,
-            size: self.size,
-            head,
-            posted,
-            frame: self.frame,
-        }
-    }
-
     // Answers 1, if the record breaks a line, or 0; 0 beside a refusal.
     pub fn tail_value(self) -> Asked
         ensures { λ r. ⌜ r ≡ tailValueOf self ⌝ }
     {
-        if self.record_ok() {
-            Asked {
-                answer: 0,
-                value: ring::slot(self.head, self.size, self.posted),
-            }
-        } else {
-            Asked {
-                answer: 1,
-                value: 0,
-            }
-        }
+        self.shared.tail_value(self.record_ok())
     }
 
     // Answers 1, if the record breaks a line, or 0; 0 beside a refusal.
     pub fn tail_register(self) -> Asked
         ensures { λ r. ⌜ r ≡ tailRegisterOf self ⌝ }
     {
-        if self.record_ok() {
-            Asked {
-                answer: 0,
-                value: TAIL_STEP * self.queue,
-            }
-        } else {
-            Asked {
-                answer: 1,
-                value: 0,
-            }
-        }
+        self.shared.tail_register(self.record_ok(), TAIL_REGISTER)
     }
 }

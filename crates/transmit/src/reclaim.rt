@@ -19,9 +19,9 @@ impl TxQueue {
     fn reclaim_answer(self, ring: &[u64], tokens: &[u64], counts: &[u16]) -> u8
         ensures { λ r. ⌜ r ≡ reclaimAnswer self (now (ring .entry)) (now (tokens .entry)) (now (counts .entry)) ⌝ }
     {
-        let size = self.size;
-        let head = self.head;
-        let posted = self.posted;
+        let size = self.shared.size;
+        let head = self.shared.head;
+        let posted = self.shared.posted;
         if self.lent_ok(ring.len(), tokens.len(), counts.len()) {
             if posted == 0 {
                 4
@@ -43,15 +43,16 @@ impl TxQueue {
     pub fn reclaim(self, ring: &[u64], tokens: &[u64], counts: &[u16]) -> Reclaimed
         ensures { λ r. ⌜ r ≡ reclaimOf self (now (ring .entry)) (now (tokens .entry)) (now (counts .entry)) ⌝ }
     {
-        let head = self.head;
-        let posted = self.posted;
+        let head = self.shared.head;
         let answer = self.reclaim_answer(ring, tokens, counts);
         if answer == 0 {
             let count = counts[head] as usize;
-            let next = ring::slot(head, self.size, count);
             Reclaimed {
                 answer,
-                queue: self.moved_to(next, posted - count),
+                queue: TxQueue {
+                    shared: self.shared.advanced(count),
+                    frame: self.frame,
+                },
                 token: tokens[head],
                 count,
             }

@@ -34,8 +34,8 @@ impl TxQueue {
     ) -> u8
         ensures { λ r. ⌜ r ≡ sendAnswer self «ring_length» «tokens_length» «counts_length» (now (addresses .entry)) (now (lengths .entry)) request ⌝ }
     {
-        let size = self.size;
-        let posted = self.posted;
+        let size = self.shared.size;
+        let posted = self.shared.posted;
         if self.lent_ok(ring_length, tokens_length, counts_length) {
             let own = judge(addresses, lengths, self.frame as u64, request);
             if own == 0 {
@@ -74,15 +74,17 @@ impl TxQueue {
             request,
         );
         if answer == 0 {
-            let tail = ring::slot(self.head, self.size, self.posted);
+            let tail = self.shared.tail();
             let slots = slots_of(request, lengths.len());
-            put_descriptors(ring, self.size, tail, addresses, lengths, request);
+            put_descriptors(ring, self.shared.size, tail, addresses, lengths, request);
             tokens[tail] = token;
             counts[tail] = slots as u16;
-            let queue = self.moved_to(self.head, self.posted + slots);
             Sent {
                 answer,
-                queue,
+                queue: TxQueue {
+                    shared: self.shared.grown(slots),
+                    frame: self.frame,
+                },
                 slots,
             }
         } else {

@@ -26,26 +26,20 @@ shared-slice-read-count : tie.Need-shared-slice-read-count
 shared-slice-read-count c = let h = ready (c .before) in omega arith
 
 cast-count : tie.Need-cast-count
-cast-count c = omega (arith, c .shared-slice-known4 .given (entry (c .before) .args .self .head))
+cast-count c = omega (arith, c .shared-slice-known4 .given (entry (c .before) .args .self .shared .head))
 
-slot-requires : tie.Need-slot-requires
-slot-requires c κs = let h = ready (c .before) in search needs
+advanced-requires : tie.Need-advanced-requires
+advanced-requires c κs = let h = ready (c .before) in record { is = h .lent-is .is .shared-is; posted-all = h .count-is .most }
 
-sub-moved-to : tie.Need-sub-moved-to
-sub-moved-to c = omega (arith, ready (c .before .before) .count-is .most)
+mul-t10 : tie.Need-mul-t10
+mul-t10 c = let h = ready (c .before .before) in omega arith
 
-moved-to-requires : tie.Need-moved-to-requires
-moved-to-requires c κs = search needs
-
-mul-t16 : tie.Need-mul-t16
-mul-t16 c = let h = ready (c .before .before .before) in omega arith
-
-shared-slice-read-t18 : tie.Need-shared-slice-read-t18
-shared-slice-read-t18 c = let h = ready (c .before .before .before .before) in omega arith
+shared-slice-read-t16 : tie.Need-shared-slice-read-t16
+shared-slice-read-t16 c = let h = ready (c .before .before .before) in omega arith
 
 returns : tie.Need-returns
 unfolding reclaimOf
-returns c = rw (sym (c .before .before .before .before .before .reclaim-answer .ensures), eq-eqb _ _ (c .before .before .before .before .if1 .taken), c .before .before .before .before .if1 .taken, c .before .moved-to .ensures, c .before .before .slot .ensures .is)
+returns c = rw (sym (c .before .before .before .before .reclaim-answer .ensures), eq-eqb _ _ (c .before .before .before .if1 .taken), c .before .before .before .if1 .taken, c .before .advanced .ensures)
 
 returns-2 : tie.Need-returns-2
 unfolding reclaimOf
@@ -59,10 +53,8 @@ reclaim-spec =
     mul-count
     shared-slice-read-count
     cast-count
-    slot-requires
-    sub-moved-to
-    moved-to-requires
-    mul-t16
-    shared-slice-read-t18
+    advanced-requires
+    mul-t10
+    shared-slice-read-t16
     returns
     returns-2)

@@ -21,7 +21,7 @@ shared-slice-read-count : tie.Need-shared-slice-read-count
 shared-slice-read-count c = let h = lent _ _ _ _ (sym (c .before .before .before .lent-ok .ensures) ∙ c .before .before .if1 .taken) in omega arith
 
 cast-count : tie.Need-cast-count
-cast-count c = omega (arith, c .shared-slice-known4 .given (c .before .before .before .before .before .before .before .args .self .head))
+cast-count c = omega (arith, c .shared-slice-known4 .given (c .before .before .before .before .before .before .before .args .self .shared .head))
 
 -- the function's entry, seen from where the count is right; what is known there
 abbrev entry : tie.Else3 → tie.Start

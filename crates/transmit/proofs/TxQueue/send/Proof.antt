@@ -1,6 +1,6 @@
 -- `TxQueue::send` meets its contract.
 -- Assumes nothing.
-use Prim.Native.Nat.{_+_, _-_, _<_}
+use Prim.Native.Nat.{_+_, _<_}
 use mathlib.Core.Path.{sym, _∙_}
 use native.Mathlib.Omega.{arith}
 use borrow.Author.Needs.{needs}
@@ -22,14 +22,14 @@ abbrev accepted : tie.After-slice-known4 → tie.Then1
 accepted d = d .before .before .before .before .before .before
 
 -- the slots that the send takes fit the record and a count
-slots-few : (d : tie.After-slice-known4) → d .before .before .before .before .slots-of .result + entry (accepted d) .args .self .posted < entry (accepted d) .args .self .size
-slots-few d = let r = ready (accepted d) in omega (arith, d .before .before .before .before .slots-of .ensures, r .room, r .lent-is .is .place)
+slots-few : (d : tie.After-slice-known4) → entry (accepted d) .args .self .shared .posted + d .before .before .before .before .slots-of .result < entry (accepted d) .args .self .shared .size
+slots-few d = let r = ready (accepted d) in omega (arith, d .before .before .before .before .slots-of .ensures, r .room, r .lent-is .is .shared-is)
 
 send-answer-requires : tie.Need-send-answer-requires
 send-answer-requires c κs = search needs
 
-slot-requires : tie.Need-slot-requires
-slot-requires c κs = let h = ready c .lent-is in search needs
+tail-requires : tie.Need-tail-requires
+tail-requires c κs = ready c .lent-is .is .shared-is
 
 slots-of-requires : tie.Need-slots-of-requires
 slots-of-requires c κs = ready (c .before) .own .few
@@ -39,37 +39,34 @@ put-descriptors-requires c κs =
     let r = ready (c .before .before .before) in
     record {
       ring-long = r .lent-is .ring-long;
-      size-high = omega (arith, r .lent-is .is .place);
-      start-below = c .before .before .slot .ensures .below;
+      size-high = omega (arith, r .lent-is .is .shared-is);
+      start-below = c .before .before .tail .ensures .below;
       paired = r .own .paired;
       some = r .own .some;
-      fewer = omega (arith, r .room, r .lent-is .is .place);
+      fewer = omega (arith, r .room, r .lent-is .is .shared-is);
       short = λ i l. omega (arith, r .own .each i l);
     }
 
 mul-tokens : tie.Need-mul-tokens
-mul-tokens c = let h = ready (accepted c) .lent-is in omega (arith, h .tokens-long, c .before .before .before .before .before .slot .ensures .below)
+mul-tokens c = let h = ready (accepted c) .lent-is in omega (arith, h .tokens-long, c .before .before .before .before .before .tail .ensures .below)
 
 slice-write-tokens : tie.Need-slice-write-tokens
-slice-write-tokens c = let h = ready (accepted c) .lent-is in omega (arith, h .tokens-long, c .before .before .before .before .before .slot .ensures .below)
+slice-write-tokens c = let h = ready (accepted c) .lent-is in omega (arith, h .tokens-long, c .before .before .before .before .before .tail .ensures .below)
 
 cast-counts : tie.Need-cast-counts
-cast-counts c = omega (arith, slots-few c, ready (accepted c) .lent-is .is .place)
+cast-counts c = omega (arith, slots-few c, ready (accepted c) .lent-is .is .shared-is)
 
 mul-counts : tie.Need-mul-counts
-mul-counts c = let h = ready (accepted c) .lent-is in omega (arith, h .counts-long, c .before .before .before .before .before .slot .ensures .below)
+mul-counts c = let h = ready (accepted c) .lent-is in omega (arith, h .counts-long, c .before .before .before .before .before .tail .ensures .below)
 
 slice-write-counts : tie.Need-slice-write-counts
-slice-write-counts c = let h = ready (accepted c) .lent-is in omega (arith, h .counts-long, c .before .before .before .before .before .slot .ensures .below)
+slice-write-counts c = let h = ready (accepted c) .lent-is in omega (arith, h .counts-long, c .before .before .before .before .before .tail .ensures .below)
 
-add-moved-to : tie.Need-add-moved-to
-add-moved-to c = omega (arith, slots-few (c .before), ready (accepted (c .before)) .lent-is .is .place)
-
-moved-to-requires : tie.Need-moved-to-requires
-moved-to-requires c κs = search needs
+grown-requires : tie.Need-grown-requires
+grown-requires c κs = record { is = ready (accepted c) .lent-is .is .shared-is; room = slots-few c }
 
 same-length : tie.Need-same-length
-same-length c = c .before .before .before .before .put-descriptors .kept .0
+same-length c = c .before .before .before .put-descriptors .kept .0
 
 same-length-2 : tie.Need-same-length-2
 same-length-2 c = search needs
@@ -79,14 +76,14 @@ same-length-3 c = search needs
 
 returns : tie.Need-returns
 returns c =
-    let d = c .before .before in
+    let d = c .before in
     let z = accepted d .if1 .taken in
     let e = eq-eqb _ _ z in
     record {
-      result-is = rw (← accepted d .before .send-answer .ensures, e, z, c .moved-to .ensures, ← c .before .before .before .before .before .before .slots-of .ensures);
-      ring-is = rw (← accepted d .before .send-answer .ensures, e, ← c .before .before .before .before .before .before .before .slot .ensures .is) (c .before .before .before .before .put-descriptors .ensures);
-      tokens-is = rw (← accepted d .before .send-answer .ensures, e, ← c .before .before .before .before .before .before .before .slot .ensures .is);
-      counts-is = rw (← accepted d .before .send-answer .ensures, e, ← c .before .before .before .before .before .before .before .slot .ensures .is, ← c .before .before .before .before .before .before .slots-of .ensures);
+      result-is = rw (← accepted d .before .send-answer .ensures, e, z, c .grown .ensures, ← d .before .before .before .before .slots-of .ensures);
+      ring-is = rw (← accepted d .before .send-answer .ensures, e, ← d .before .before .before .before .before .tail .ensures .is) (d .before .before .put-descriptors .ensures);
+      tokens-is = rw (← accepted d .before .send-answer .ensures, e, ← d .before .before .before .before .before .tail .ensures .is);
+      counts-is = rw (← accepted d .before .send-answer .ensures, e, ← d .before .before .before .before .before .tail .ensures .is, ← d .before .before .before .before .slots-of .ensures);
     }
 
 returns-2 : tie.Need-returns-2
@@ -104,7 +101,7 @@ send-spec =
     tie.close
     (tie.spec
     send-answer-requires
-    slot-requires
+    tail-requires
     slots-of-requires
     put-descriptors-requires
     mul-tokens
@@ -112,8 +109,7 @@ send-spec =
     cast-counts
     mul-counts
     slice-write-counts
-    add-moved-to
-    moved-to-requires
+    grown-requires
     same-length
     same-length-2
     same-length-3

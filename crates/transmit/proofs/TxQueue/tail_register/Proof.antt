@@ -1,9 +1,7 @@
--- `TxQueue::tail_register` meets its contract.
+-- `TxQueue::tail_register` meets its contract: the record's test is the judgement.
 -- Assumes nothing.
 use mathlib.Core.Path.{sym, _∙_}
-use native.Mathlib.Omega.{arith}
 use borrow.Author.Needs.{needs}
-use Rattle.transmit.specs.Queue.{askedOf}
 use Rattle.transmit.proofs.Laws.{kept}
 use Rattle.transmit.proofs.TxQueue.tail_register.Statement.{statement}
 use Rattle.transmit.proofs.TxQueue.tail_register.Tie as tie
@@ -11,16 +9,11 @@ use Rattle.transmit.proofs.TxQueue.tail_register.Tie as tie
 record-ok-requires : tie.Need-record-ok-requires
 record-ok-requires c κs = search needs
 
-mul-t4 : tie.Need-mul-t4
-mul-t4 c = let h = kept _ (sym (c .before .before .record-ok .ensures) ∙ c .before .if1 .taken) in omega arith
+tail-register-requires : tie.Need-tail-register-requires
+tail-register-requires c κs = λ e. kept _ (sym (c .record-ok .ensures) ∙ e) .shared-is
 
 returns : tie.Need-returns
-unfolding askedOf
-returns c = rw (sym (c .before .before .record-ok .ensures), c .before .if1 .taken)
-
-returns-2 : tie.Need-returns-2
-unfolding askedOf
-returns-2 c = rw (sym (c .before .record-ok .ensures), c .if1 .left)
+returns c = rw (← c .before .record-ok .ensures) (c .tail-register .ensures)
 
 pub tail-register-spec : {M : Type 1} → statement M
-tail-register-spec = tie.close (tie.spec record-ok-requires mul-t4 returns returns-2)
+tail-register-spec = tie.close (tie.spec record-ok-requires tail-register-requires returns)

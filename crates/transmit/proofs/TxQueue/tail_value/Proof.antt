@@ -1,8 +1,7 @@
--- `TxQueue::tail_value` meets its contract.
+-- `TxQueue::tail_value` meets its contract: the record's test is the judgement.
 -- Assumes nothing.
 use mathlib.Core.Path.{sym, _∙_}
 use borrow.Author.Needs.{needs}
-use Rattle.transmit.specs.Queue.{askedOf}
 use Rattle.transmit.proofs.Laws.{kept}
 use Rattle.transmit.proofs.TxQueue.tail_value.Statement.{statement}
 use Rattle.transmit.proofs.TxQueue.tail_value.Tie as tie
@@ -10,16 +9,11 @@ use Rattle.transmit.proofs.TxQueue.tail_value.Tie as tie
 record-ok-requires : tie.Need-record-ok-requires
 record-ok-requires c κs = search needs
 
-slot-requires : tie.Need-slot-requires
-slot-requires c κs = let h = kept _ (sym (c .before .record-ok .ensures) ∙ c .if1 .taken) in search needs
+tail-value-requires : tie.Need-tail-value-requires
+tail-value-requires c κs = λ e. kept _ (sym (c .record-ok .ensures) ∙ e) .shared-is
 
 returns : tie.Need-returns
-unfolding askedOf
-returns c = rw (sym (c .before .before .record-ok .ensures), c .before .if1 .taken, c .slot .ensures .is)
-
-returns-2 : tie.Need-returns-2
-unfolding askedOf
-returns-2 c = rw (sym (c .before .record-ok .ensures), c .if1 .left)
+returns c = rw (← c .before .record-ok .ensures) (c .tail-value .ensures)
 
 pub tail-value-spec : {M : Type 1} → statement M
-tail-value-spec = tie.close (tie.spec record-ok-requires slot-requires returns returns-2)
+tail-value-spec = tie.close (tie.spec record-ok-requires tail-value-requires returns)
