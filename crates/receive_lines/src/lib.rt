@@ -1,11 +1,12 @@
 // The lines of a script that are for the receive queue: its record, and how much of its memory is lent. A part of the program `probe`:
 // what it prints is compared.
 use command::Command;
-use receive::Asked;
 use receive::Packet;
 use receive::Posted;
 use receive::RxQueue;
 use receive::Taken;
+use ring::Asked;
+use ring::Queue;
 use script::Given;
 use script::LONGEST;
 use script::RING;
@@ -16,8 +17,8 @@ use script::no_row;
 use script::poke;
 use script::row_of;
 use sum::sum_of;
-use writeback::Family;
 use writeback::WriteBack;
+use writeback::family_number;
 
 pub struct Rx {
     queue: RxQueue,
@@ -33,10 +34,12 @@ pub struct Received {
 
 fn record(queue: u64, size: u64, head: u64, posted: u64, buffer: u64) -> RxQueue {
     RxQueue {
-        queue: queue as usize,
-        size: size as usize,
-        head: head as usize,
-        posted: posted as usize,
+        shared: Queue {
+            queue: queue as usize,
+            size: size as usize,
+            head: head as usize,
+            posted: posted as usize,
+        },
         buffer: buffer as usize,
     }
 }
@@ -73,8 +76,8 @@ fn begun(answer: u8, queue: RxQueue, rx: Rx) -> Rx {
     if answer == 0 {
         Rx {
             queue,
-            ring: std::num::wrapping_add_usize(queue.size, queue.size),
-            list: queue.size,
+            ring: std::num::wrapping_add_usize(queue.shared.size, queue.shared.size),
+            list: queue.shared.size,
         }
     } else {
         with(rx, queue)
@@ -85,10 +88,10 @@ fn fresh_row(answer: u8, queue: RxQueue) -> Row {
     row_of(
         6,
         answer as u64,
-        queue.queue as u64,
-        queue.size as u64,
-        queue.head as u64,
-        queue.posted as u64,
+        queue.shared.queue as u64,
+        queue.shared.size as u64,
+        queue.shared.head as u64,
+        queue.shared.posted as u64,
         queue.buffer as u64,
     )
 }
@@ -109,8 +112,8 @@ fn posted(rx: Rx, posted: Posted) -> Received {
         row: row_of(
             3,
             posted.answer as u64,
-            queue.head as u64,
-            queue.posted as u64,
+            queue.shared.head as u64,
+            queue.shared.posted as u64,
             0,
             0,
             0,
@@ -133,16 +136,6 @@ fn from_byte(n: u8) -> u64 {
     n as u64
 }
 
-fn family_number(family: Family) -> u64 {
-    match family {
-        Family::Unknown => 0,
-        Family::Mac => 1,
-        Family::Arp => 2,
-        Family::Ipv4 => 3,
-        Family::Ipv6 => 4,
-    }
-}
-
 // The row of a take: the packet's slots, then the fields of the last one.
 fn take_row(answer: u8, queue: RxQueue, packet: Packet) -> [u64; LONGEST] {
     let last = packet.last;
@@ -151,8 +144,8 @@ fn take_row(answer: u8, queue: RxQueue, packet: Packet) -> [u64; LONGEST] {
     let family = last.family;
     [
         answer as u64,
-        queue.head as u64,
-        queue.posted as u64,
+        queue.shared.head as u64,
+        queue.shared.posted as u64,
         packet.count as u64,
         packet.total as u64,
         a[0],

@@ -4,8 +4,8 @@ use measure::checksum::mix;
 use measure::checksum::number;
 use receive::Packet;
 use receive::Taken;
-use writeback::Family;
 use writeback::WriteBack;
+use writeback::family_number;
 
 fn half(sum: u64, x: u16) -> u64 {
     mix(sum, x as u64)
@@ -17,16 +17,6 @@ fn whole(sum: u64, x: u32) -> u64 {
 
 fn flag(sum: u64, x: bool) -> u64 {
     mix(sum, x as u64)
-}
-
-fn family_number(family: Family) -> u64 {
-    match family {
-        Family::Unknown => 0,
-        Family::Mac => 1,
-        Family::Arp => 2,
-        Family::Ipv4 => 3,
-        Family::Ipv6 => 4,
-    }
 }
 
 fn five(sum: u64, a: u64, b: u64, c: u64, d: u64, e: u64) -> u64 {

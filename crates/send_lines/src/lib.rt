@@ -4,6 +4,8 @@ use command::Command;
 use offload::IpKind;
 use offload::L4Kind;
 use offload::Request;
+use ring::Asked;
+use ring::Queue;
 use script::GIVEN;
 use script::Given;
 use script::NUMBERS;
@@ -17,7 +19,6 @@ use script::poke;
 use script::row_of;
 use sum::sum_counts;
 use sum::sum_of;
-use transmit::Asked;
 use transmit::Reclaimed;
 use transmit::Sent;
 use transmit::TxQueue;
@@ -37,10 +38,12 @@ pub struct Passed {
 
 fn record(queue: u64, size: u64, head: u64, posted: u64, frame: u64) -> TxQueue {
     TxQueue {
-        queue: queue as usize,
-        size: size as usize,
-        head: head as usize,
-        posted: posted as usize,
+        shared: Queue {
+            queue: queue as usize,
+            size: size as usize,
+            head: head as usize,
+            posted: posted as usize,
+        },
         frame: frame as usize,
     }
 }
@@ -80,9 +83,9 @@ fn begun(answer: u8, queue: TxQueue, tx: Tx) -> Tx {
     if answer == 0 {
         Tx {
             queue,
-            ring: std::num::wrapping_add_usize(queue.size, queue.size),
-            tokens: queue.size,
-            counts: queue.size,
+            ring: std::num::wrapping_add_usize(queue.shared.size, queue.shared.size),
+            tokens: queue.shared.size,
+            counts: queue.shared.size,
         }
     } else {
         with(tx, queue)
@@ -93,10 +96,10 @@ fn fresh_row(answer: u8, queue: TxQueue) -> Row {
     row_of(
         6,
         answer as u64,
-        queue.queue as u64,
-        queue.size as u64,
-        queue.head as u64,
-        queue.posted as u64,
+        queue.shared.queue as u64,
+        queue.shared.size as u64,
+        queue.shared.head as u64,
+        queue.shared.posted as u64,
         queue.frame as u64,
     )
 }
@@ -150,8 +153,8 @@ fn sent(tx: Tx, sent: Sent) -> Passed {
         row: row_of(
             4,
             sent.answer as u64,
-            queue.head as u64,
-            queue.posted as u64,
+            queue.shared.head as u64,
+            queue.shared.posted as u64,
             sent.slots as u64,
             0,
             0,
@@ -217,8 +220,8 @@ fn reclaimed(tx: Tx, reclaimed: Reclaimed) -> Passed {
         row: row_of(
             5,
             reclaimed.answer as u64,
-            queue.head as u64,
-            queue.posted as u64,
+            queue.shared.head as u64,
+            queue.shared.posted as u64,
             reclaimed.token,
             reclaimed.count as u64,
             0,
