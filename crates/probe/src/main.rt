@@ -61,11 +61,7 @@ fn reply(heard: Heard, bench: Bench, text: &[u8; TEXT], out: &mut [u8; PRINTED])
     let line = heard.line;
     let reading = heard.reading;
     let row = bench.row;
-    let next = if said.bad {
-        printing::bad(reading.number, out, heard.next)
-    } else {
-        printing::print(line, text, row, out, heard.next)
-    };
+    let next = printing::print(line, said.bad, reading.number, row, text, out, heard.next);
     State {
         reading,
         bench,

@@ -3,6 +3,7 @@ use feed::Line;
 use libc::STDOUT_FILENO;
 use row::put_row;
 use script::Row;
+use script::row_of;
 use words::word_end;
 
 // What is printed is held back up to here, and the longest answer fits the room behind it.
@@ -24,35 +25,34 @@ pub(crate) fn with_room(out: &[u8; PRINTED], next: usize) -> usize {
     }
 }
 
-// The answer to a line that is of no form.
-pub(crate) fn bad(number: u64, out: &mut [u8; PRINTED], next: usize) -> usize {
-    let row = [number];
-    put_row(out, next, b"bad", &row, 1)
-}
-
-// A row behind the first word of its line.
-fn answer(words: &[u8], row: Row, out: &mut [u8; PRINTED], next: usize) -> usize {
+// A row behind its name, where it has numbers.
+fn put(name: &[u8], row: Row, out: &mut [u8; PRINTED], next: usize) -> usize {
     let values = row.values;
-    put_row(
-        out,
-        next,
-        feed::first(words, word_end(words, 0)),
-        &values,
-        row.count,
-    )
+    if 0 < row.count {
+        put_row(out, next, name, &values, row.count)
+    } else {
+        next
+    }
 }
 
-// The answer to a line, where it has numbers.
+fn first_word(line: Line, text: &[u8]) -> &[u8] {
+    let words = feed::part(text, line.from, line.to);
+    feed::first(words, word_end(words, 0))
+}
+
+// The answer to a line; one that is of no form is answered by its number in the script.
 pub(crate) fn print(
     line: Line,
-    text: &[u8],
+    bad: bool,
+    number: u64,
     row: Row,
+    text: &[u8],
     out: &mut [u8; PRINTED],
     next: usize,
 ) -> usize {
-    if 0 < row.count {
-        answer(feed::part(text, line.from, line.to), row, out, next)
+    if bad {
+        put(b"bad", row_of(1, number, 0, 0, 0, 0, 0), out, next)
     } else {
-        next
+        put(first_word(line, text), row, out, next)
     }
 }
