@@ -1,5 +1,6 @@
-// Both queues, and the calls that the lines of a script ask for. A part of the program `probe`: what it prints is compared.
+// Both queues, the calls that the lines of a script ask for, and their answers. A part of the program `probe`: what it prints is compared.
 mod interrupts;
+pub mod printing;
 
 use command::Command;
 use forms::Said;

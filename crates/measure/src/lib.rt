@@ -1,9 +1,10 @@
-// What the rounds of each operation share: a number over all results, and the device's side of the rings. A part of the program
+// What the rounds of each operation share: a number over all results, the device's side of the rings, and the pieces of a packet. A part of the program
 // `rounds`: what it prints is compared.
 ghost use Prim.Native.Nat.{_≤_};
 
 pub mod checksum;
 pub mod device;
+pub mod pieces;
 
 // The largest ring.
 pub const MOST_SLOTS: usize = 4096;

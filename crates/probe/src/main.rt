@@ -4,9 +4,9 @@ mod printing;
 mod reading;
 
 use calls::Bench;
+use calls::printing::PRINTED;
 use feed::Line;
 use forms::Said;
-use printing::PRINTED;
 use reading::Reading;
 use reading::TEXT;
 use script::NUMBERS;
@@ -61,7 +61,7 @@ fn reply(heard: Heard, bench: Bench, text: &[u8; TEXT], out: &mut [u8; PRINTED])
     let line = heard.line;
     let reading = heard.reading;
     let row = bench.row;
-    let next = printing::print(line, said.bad, reading.number, row, text, out, heard.next);
+    let next = calls::printing::print(line, said.bad, reading.number, row, text, out, heard.next);
     State {
         reading,
         bench,

@@ -1,14 +1,8 @@
-// What is printed: an answer is a row that begins with its line's own command.
-use feed::Line;
+// What is printed: held back in memory, and written out where there is no room for another answer.
+use calls::printing::PRINTED;
 use libc::STDOUT_FILENO;
-use row::put_row;
-use script::Row;
-use script::row_of;
-use words::word_end;
 
-// What is printed is held back up to here, and the longest answer fits the room behind it.
-pub(crate) const PRINTED: usize = 65536;
-
+// The longest answer fits this room.
 const ROOM: usize = 1024;
 
 pub(crate) fn write_out(out: &[u8], next: usize) {
@@ -22,37 +16,5 @@ pub(crate) fn with_room(out: &[u8; PRINTED], next: usize) -> usize {
     } else {
         write_out(out, next);
         0
-    }
-}
-
-// A row behind its name, where it has numbers.
-fn put(name: &[u8], row: Row, out: &mut [u8; PRINTED], next: usize) -> usize {
-    let values = row.values;
-    if 0 < row.count {
-        put_row(out, next, name, &values, row.count)
-    } else {
-        next
-    }
-}
-
-fn first_word(line: Line, text: &[u8]) -> &[u8] {
-    let words = feed::part(text, line.from, line.to);
-    feed::first(words, word_end(words, 0))
-}
-
-// The answer to a line; one that is of no form is answered by its number in the script.
-pub(crate) fn print(
-    line: Line,
-    bad: bool,
-    number: u64,
-    row: Row,
-    text: &[u8],
-    out: &mut [u8; PRINTED],
-    next: usize,
-) -> usize {
-    if bad {
-        put(b"bad", row_of(1, number, 0, 0, 0, 0, 0), out, next)
-    } else {
-        put(first_word(line, text), row, out, next)
     }
 }

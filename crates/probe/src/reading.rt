@@ -1,6 +1,6 @@
 // The script as it comes in: a turn takes one line, or reads once.
 use crate::printing;
-use crate::printing::PRINTED;
+use calls::printing::PRINTED;
 use feed::Line;
 use feed::Lines;
 use libc::STDIN_FILENO;

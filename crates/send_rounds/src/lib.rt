@@ -2,7 +2,7 @@
 use measure::MOST_SLOTS;
 use measure::checksum;
 use measure::device;
-use measure::device::set;
+use measure::pieces;
 use measure::within;
 use offload::IpKind;
 use offload::L4Kind;
@@ -52,33 +52,6 @@ fn request(asked: Asked, i: u64) -> Request {
         segmented: asked.mss != 0,
         mss: asked.mss,
         tlen: if asked.mss == 0 { 0 } else { asked.behind },
-    }
-}
-
-fn less(a: u64, b: u64) -> u64 {
-    if b < a { a - b } else { 0 }
-}
-
-fn address(i: u64) -> u64 {
-    0x100000 | (i % 65536) << 14
-}
-
-// An equal part of the bytes for each piece behind the first.
-fn share(bytes: u64, pieces: u64) -> u64 {
-    if pieces < 2 { 0 } else { bytes / (pieces - 1) }
-}
-
-// The pieces behind the first: equal parts, and in the last one what is left.
-fn lay_out(addresses: &mut [u64], lengths: &mut [u64], behind: u64) {
-    let n = lengths.len();
-    let each = share(behind, n as u64);
-    let mut left = behind;
-    let mut i = 1;
-    while i < n {
-        set(addresses, i, address(i as u64));
-        set(lengths, i, if i + 1 < n { each } else { left });
-        left = less(left, each);
-        i += 1;
     }
 }
 
@@ -158,12 +131,6 @@ fn reclaim(
     }
 }
 
-// The first piece, laid out anew.
-fn lay_first(addresses: &mut [u64], lengths: &mut [u64], i: u64, first: u64) {
-    set(addresses, 0, address(i));
-    set(lengths, 0, first);
-}
-
 fn hand_over(
     run: Run,
     ring: &mut [u64],
@@ -224,7 +191,7 @@ fn repeat(
     let mut run = begun;
     let mut i = 0;
     while i < asked.rounds {
-        lay_first(addresses, lengths, i, asked.first);
+        pieces::lay_first(addresses, lengths, i, asked.first);
         run = one_round(run, ring, tokens, counts, addresses, lengths, i, asked);
         i += 1;
     }
@@ -239,7 +206,7 @@ fn answer(
     lengths: &mut [u64],
     asked: Asked,
 ) -> u64 {
-    lay_out(addresses, lengths, asked.behind);
+    pieces::lay_out(addresses, lengths, asked.behind);
     let begun = start(tokens.len());
     let run = repeat(begun, ring, tokens, counts, addresses, lengths, asked);
     end(run, ring)

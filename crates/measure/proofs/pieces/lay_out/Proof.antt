@@ -1,10 +1,10 @@
--- `send_rounds::lay_out` is safe, and ends: each turn leaves fewer. Assumes nothing.
+-- `measure::pieces::lay_out` is safe, and ends: each turn leaves fewer. Assumes nothing.
 use mathlib.Core.Path.{_≡_}
 use Prim.Native.Nat.{_-_}
 use lib.ListN.{length}
 use borrow.Author.Needs.{needs}
-use Rattle.send_rounds.proofs.lay_out.Statement.{statement}
-use Rattle.send_rounds.proofs.lay_out.Tie as tie
+use Rattle.measure.proofs.pieces.lay_out.Statement.{statement}
+use Rattle.measure.proofs.pieces.lay_out.Tie as tie
 
 abbrev Inv-loop : tie.InvT-loop
 Inv-loop addresses₀ lengths₀ behind n each left₀ i₀ addresses lengths left i =
