@@ -3,27 +3,25 @@ use Prim.Native.Nat.{ℕ, _-_}
 use native.Mathlib.Omega.{arith}
 use mathlib.Core.Path.{_≡_, refl, sym, ap, _∙_}
 use mathlib.Core.Logic.{_≢_}
+use mathlib.Core.Bool.{true≢false}
 use mathlib.Core.List.{List, [], _∷_, _++_, map, append-assoc, append-nil, map-append}
-use native.Mathlib.Decide.{ℕ-discrete}
-use borrow.Author.Tests.{ltb-true}
 use lib.ListN.{length, take-append-drop, length-append, length-map}
 use lib.Seq.{drop-at, drop-length, drop-append-seam}
-use Rattle.ring.proofs.Steps.{distance-slot}
+use Rattle.ring.specs.Queue.{slotOf, tailOf}
+use Rattle.ring.proofs.Record.{tail-free}
 use Rattle.writeback.specs.WriteBack.{Words}
 use Rattle.receive.specs.declared.RxQueue.{RxQueue}
 use Rattle.receive.specs.declared.Packet.{Packet}
-use Rattle.receive.specs.Queue.{slotOf, tailOf}
 use Rattle.receive.specs.Slots.{Slot}
-use Rattle.receive.specs.Post.{blank}
 use Rattle.receive.specs.Take.{packetOf, sum}
-use Rattle.history.specs.World.{World, Event, post, poll, write, postAt, takeAt, after, end, AllAllowed, Start}
+use Rattle.receive.proofs.Posts.{post-leaves}
+use Rattle.history.specs.World.{World, Event, post, poll, write, takeAt, after, end, AllAllowed, Start}
 use Rattle.history.specs.History.{writeAt, writes, packets, written, completed, handedUp, returned, waiting}
 use Rattle.history.specs.Late.{lateFrom, late, callAt, calls}
 use Rattle.history.specs.Demand.{nextOf, Unreturned, slotNo, Demand3}
 use Rattle.history.specs.Stale.{row}
 use Rattle.history.proofs.Lists.{first}
-use Rattle.history.proofs.Ring.{store-other, list-other}
-use Rattle.history.proofs.State.{seen, placed, after-accepted, after-refused, take-none, take-some, Fit, Holds, holds-start, seen-first}
+use Rattle.history.proofs.State.{seen, after-refused, take-none, take-some, Fit, fit-shared, Holds, holds-start, seen-first}
 use Rattle.history.proofs.Run.{post-holds, Ran, ran}
 use Rattle.history.proofs.Late.{Later, later}
 
@@ -113,25 +111,12 @@ module _ (w : World) (es : List Event) (r : Ran w [] [] es) where
 
 -- ---- a post leaves every slot still unreturned
 
-not-tail : (w : World) (s : ℕ) → Fit w → Unreturned w s → s ≢ tailOf (w .queue)
-not-tail w s f u e =
-    let d = distance-slot (w .queue .head) (w .queue .size) (w .queue .posted) (f .head) (f .posted) in
-    omega (arith, ltb-true (w .queue .posted) (w .queue .posted) (rw (e, d) at u))
+not-tail : (w : World) (s : ℕ) → Fit w → Unreturned w s → s ≢ tailOf (w .queue .shared)
+not-tail w s f u e = true≢false (sym (rw e at u) ∙ tail-free (w .queue .shared) (fit-shared w f))
 
 post-keeps : (w : World) (a s : ℕ) → Fit w → Unreturned w s → slotNo (after w (post a)) s ≡ slotNo w s
-unfolding placed
-post-keeps w a s f u = go (ℕ-discrete (postAt w a .answer) 0)
-  where
-    ne : s ≢ tailOf (w .queue)
-    ne = not-tail w s f u
-
-    in-placed : slotNo (placed w a) s ≡ slotNo w s
-    in-placed =
-        store-other (w .ring) (placed w a .list) (tailOf (w .queue)) s (blank a) ne ∙ list-other (w .ring) (w .list) (tailOf (w .queue)) s a ne
-
-    go : Dec (postAt w a .answer ≡ 0) → slotNo (after w (post a)) s ≡ slotNo w s
-    go (yes e) = rw (after-accepted w a e) in-placed
-    go (no n) = rw (after-refused w a n)
+unfolding after
+post-keeps w a s f u = post-leaves (w .queue) (w .ring) (w .list) a s (not-tail w s f u)
 
 pub demand3 : (w : World) (es : List Event) → Start w → AllAllowed w es → Demand3 w es
 unfolding handedUp returned written end late
@@ -139,7 +124,7 @@ demand3 w es f t =
     record {
       firstCompleted = is-split w es r;
       everyWrite = r .all;
-      oldestNext = r .holds .place ∙ ap (λ (n : ℕ). slotOf (end w es .queue) n) left;
+      oldestNext = r .holds .place ∙ ap (λ (n : ℕ). slotOf (end w es .queue .shared) n) left;
       lateAllowed = l .allowed;
       lateCalls = late-calls w [] es;
       lateWrites = late-writes w [] es;
@@ -167,4 +152,4 @@ demand3 w es f t =
     left = omega (arith, written-length w es r, returned-length w es r, ap length (r .logs), length-append (row (r .up)) (r .L′))
 
     l : Later w w [] es
-    l = later es w w [] [] refl start (record { place = start .place; room = omega arith; lap = start .fit .posted; legal = tt }) t
+    l = later es w w [] [] refl start (record { place = start .place; room = omega arith; lap = fit-shared w (start .fit) .posted-below; legal = tt }) t

@@ -6,7 +6,8 @@ use lib.Dec.{T, eqb, T-not}
 use borrow.Author.Tests.{eq-eqb}
 use mir.Facts.{and-yes}
 use Rattle.ring.specs.Slots.{run}
-use Rattle.receive.specs.Queue.{recordOk, lentOk, tailOf, freshOf}
+use Rattle.ring.specs.Queue.{tailOf}
+use Rattle.receive.specs.Queue.{recordOk, lentOk, freshOf}
 use Rattle.receive.specs.Slots.{postedSlots}
 use Rattle.receive.specs.Post.{postAnswer}
 use Rattle.receive.specs.Take.{lengthOk, endOk, writable, andThen, scan, look, sum, padded, lastWords, packetOf, takeBy, takeOf}
@@ -22,7 +23,7 @@ use Rattle.history.proofs.Demand.{demand3}
 unfoldable fits : World → Event → Bool
 fits w (post a) = true
 fits w poll = true
-fits w (write x) = not (eqb (w .place) (tailOf (w .queue))) && writable (w .queue .buffer) (w .part) x
+fits w (write x) = not (eqb (w .place) (tailOf (w .queue .shared))) && writable (w .queue .buffer) (w .part) x
 
 unfoldable allFit : World → List Event → Bool
 allFit w [] = true
@@ -33,8 +34,8 @@ unfolding fits
 fits-allowed w (post a) t = tt
 fits-allowed w poll t = tt
 fits-allowed w (write x) t =
-    let s = and-yes (not (eqb (w .place) (tailOf (w .queue)))) (writable (w .queue .buffer) (w .part) x) t in
-    (λ e. T-not (eqb (w .place) (tailOf (w .queue))) (s .0) (rw (eq-eqb _ _ e) tt), s .1)
+    let s = and-yes (not (eqb (w .place) (tailOf (w .queue .shared)))) (writable (w .queue .buffer) (w .part) x) t in
+    (λ e. T-not (eqb (w .place) (tailOf (w .queue .shared))) (s .0) (rw (eq-eqb _ _ e) tt), s .1)
 
 all-allowed : (w : World) (es : List Event) → T (allFit w es) → AllAllowed w es
 unfolding allFit
@@ -46,7 +47,7 @@ all-allowed w (e ∷ es) t =
 -- ---- the histories
 
 start-is : Start start
-unfolding freshOf
+unfolding freshOf recordOk
 start-is =
     record {
       number = 0;

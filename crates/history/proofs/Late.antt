@@ -11,10 +11,10 @@ use lib.Dec.{eqb}
 use lib.ListN.{length, take, drop, length-append, take-append-drop}
 use lib.Seq.{take-append-seam, length-take-le}
 use Rattle.ring.specs.Slots.{slotAt}
+use Rattle.ring.specs.Queue.{tailOf}
 use Rattle.ring.proofs.Steps.{apart}
 use Rattle.ring.proofs.Stores.{length-store, store-comm}
 use Rattle.writeback.specs.WriteBack.{Words}
-use Rattle.receive.specs.Queue.{tailOf}
 use Rattle.receive.specs.Slots.{Slot}
 use Rattle.receive.specs.Post.{postAnswer, blank, oneMore}
 use Rattle.receive.specs.Take.{refuse, whole, packetOf}
@@ -23,7 +23,7 @@ use Rattle.history.specs.History.{filled, packets}
 use Rattle.history.specs.Late.{lateFrom, NoneLeft, JustBefore}
 use Rattle.history.proofs.Lists.{LegalWords, openAfter, filled-short, Cut, cut, cut-first, legal-append, legal-split}
 use Rattle.history.proofs.Ring.{pair}
-use Rattle.history.proofs.State.{seen, placed, moved, stored, after-accepted, after-refused, after-none, take-none, after-some, take-some, Fit, room, Holds, holds-count, holds-write, holds-take, seen-first}
+use Rattle.history.proofs.State.{seen, placed, moved, stored, after-accepted, after-refused, after-none, take-none, after-some, take-some, Fit, fit-shared, room, Holds, holds-count, holds-write, holds-take, seen-first}
 use Rattle.history.proofs.Run.{post-holds}
 
 -- ---- two lists of events, one after the other
@@ -58,8 +58,8 @@ unfolding end
 wrote-just v [] es j = j
 wrote-just v (x ∷ D) es j = wrote-just (after v (write x)) D es j
 
-next-place : (v : World) (x : Words) (d : ℕ) → v .place ≡ slotAt (v .queue .head) (v .queue .size) d
-    → stored v x .place ≡ slotAt (v .queue .head) (v .queue .size) (suc d)
+next-place : (v : World) (x : Words) (d : ℕ) → v .place ≡ slotAt (v .queue .shared .head) (v .queue .shared .size) d
+    → stored v x .place ≡ slotAt (v .queue .shared .head) (v .queue .shared .size) (suc d)
 unfolding after
 next-place v x d e = rw (e, ← suc-mod, add-suc)
 
@@ -68,11 +68,11 @@ unfolding end after
 wrote-queue v [] = refl
 wrote-queue v (x ∷ D) = wrote-queue (stored v x) D
 
-wrote-place : (v : World) (d : ℕ) (D : List Words) → v .place ≡ slotAt (v .queue .head) (v .queue .size) d
-    → wrote v D .place ≡ slotAt (v .queue .head) (v .queue .size) (d + length D)
+wrote-place : (v : World) (d : ℕ) (D : List Words) → v .place ≡ slotAt (v .queue .shared .head) (v .queue .shared .size) d
+    → wrote v D .place ≡ slotAt (v .queue .shared .head) (v .queue .shared .size) (d + length D)
 unfolding end after
-wrote-place v d [] e = e ∙ ap (λ (k : ℕ). k % v .queue .size) (omega arith)
-wrote-place v d (x ∷ D) e = wrote-place (stored v x) (suc d) D (next-place v x d e) ∙ ap (λ (k : ℕ). k % v .queue .size) (omega arith)
+wrote-place v d [] e = e ∙ ap (λ (k : ℕ). k % v .queue .shared .size) (omega arith)
+wrote-place v d (x ∷ D) e = wrote-place (stored v x) (suc d) D (next-place v x d e) ∙ ap (λ (k : ℕ). k % v .queue .shared .size) (omega arith)
 
 wrote-part : (v : World) (D : List Words) → wrote v D .part ≡ openAfter (v .part) D
 unfolding end after
@@ -81,19 +81,19 @@ wrote-part v (x ∷ D) = wrote-part (stored v x) D
 
 -- the device may make these writes, one after another, where it has written d of the posted slots
 pub record Can (v : World) (d : ℕ) (D : List Words) : Type 0 where
-  pub place : v .place ≡ slotAt (v .queue .head) (v .queue .size) d
-  pub room : d + length D ≤ v .queue .posted
-  pub lap : v .queue .posted < v .queue .size
+  pub place : v .place ≡ slotAt (v .queue .shared .head) (v .queue .shared .size) d
+  pub room : d + length D ≤ v .queue .shared .posted
+  pub lap : v .queue .shared .posted < v .queue .shared .size
   pub legal : LegalWords (v .queue .buffer) (v .part) D
 
 can-next : (v : World) (d : ℕ) (x : Words) (D : List Words) → Can v d (x ∷ D) → Can (stored v x) (suc d) D
 unfolding after
 can-next v d x D c = record { place = next-place v x d (c .place); room = omega (arith, c .room); lap = c .lap; legal = c .legal .1 }
 
-can-free : (v : World) (d : ℕ) (x : Words) (D : List Words) → Can v d (x ∷ D) → v .place ≢ tailOf (v .queue)
+can-free : (v : World) (d : ℕ) (x : Words) (D : List Words) → Can v d (x ∷ D) → v .place ≢ tailOf (v .queue .shared)
 can-free v d x D c =
     rw (c .place)
-    (apart (v .queue .head) (v .queue .size) d (v .queue .posted) (omega (arith, c .room, c .lap)) (c .lap) (λ e. omega (arith, c .room)))
+    (apart (v .queue .shared .head) (v .queue .shared .size) d (v .queue .shared .posted) (omega (arith, c .room, c .lap)) (c .lap) (λ e. omega (arith, c .room)))
 
 can-allowed : (v : World) (d : ℕ) (D : List Words) → Can v d D → AllAllowed v (map write D)
 can-allowed v d [] c = tt
@@ -108,7 +108,7 @@ can-snoc v d D x c t =
       legal = legal-append (v .queue .buffer) (v .part) D (x ∷ []) (c .legal) (rw (wrote-queue v D, wrote-part v D) at (t .1), tt);
     }
   where
-    short : d + length D ≢ v .queue .posted
+    short : d + length D ≢ v .queue .shared .posted
     short e = t .0 (wrote-place v d D (c .place) ∙ rw (wrote-queue v D, e))
 
 can-front : (v : World) (d : ℕ) (D E : List Words) → Can v d (D ++ E) → Can v d D
@@ -142,7 +142,7 @@ holds-writes v L (a ∷ A) (x ∷ D) h c =
 
 -- where none is written the device's place is the oldest posted slot
 holds-left : (v : World) (A : List ℕ) → Holds v [] A → NoneLeft v
-holds-left v A h = h .place ∙ rw add-zero (mod-eq-of-lt (h .fit .head))
+holds-left v A h = h .place ∙ rw add-zero (mod-eq-of-lt (fit-shared v (h .fit) .head-below))
 
 -- ---- a write and a post change places
 
@@ -150,13 +150,13 @@ answer-stored : (v : World) (x : Words) (a : ℕ) → postAt (stored v x) a .ans
 unfolding after postAt
 answer-stored v x a = ap (λ (n : ℕ). postAnswer (v .queue) n (length (v .list)) a) (length-store 2 (v .ring) (v .place) (pair x))
 
-placed-stored : (v : World) (x : Words) (a : ℕ) → v .place ≢ tailOf (v .queue) → placed (stored v x) a ≡ stored (placed v a) x
+placed-stored : (v : World) (x : Words) (a : ℕ) → v .place ≢ tailOf (v .queue .shared) → placed (stored v x) a ≡ stored (placed v a) x
 unfolding placed after
 placed-stored v x a free =
     ap (λ (r : List ℕ). record { queue = placed v a .queue; ring = r; list = placed v a .list; place = stored v x .place; part = partAfter (v .part) x })
-    (store-comm 2 (v .ring) (v .place) (pair x) (tailOf (v .queue)) (pair (blank a)) refl refl free)
+    (store-comm 2 (v .ring) (v .place) (pair x) (tailOf (v .queue .shared)) (pair (blank a)) refl refl free)
 
-post-stored : (v : World) (x : Words) (a : ℕ) → v .place ≢ tailOf (v .queue) → after (stored v x) (post a) ≡ stored (after v (post a)) x
+post-stored : (v : World) (x : Words) (a : ℕ) → v .place ≢ tailOf (v .queue .shared) → after (stored v x) (post a) ≡ stored (after v (post a)) x
 post-stored v x a free = go (ℕ-discrete (postAt v a .answer) 0)
   where
     go : Dec (postAt v a .answer ≡ 0) → after (stored v x) (post a) ≡ stored (after v (post a)) x

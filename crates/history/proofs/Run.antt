@@ -49,7 +49,7 @@ post-holds w L A a h = go (ℕ-discrete (postAt w a .answer) 0)
 -- a post answers 0, 2 or 3
 usual-post : (w : World) (a : ℕ) → Fit w → usual (posted (postAt w a)) ≡ true
 unfolding usual oneOf
-usual-post w a f = rw (answer-fit w a f) (go (addressWrong a (w .queue .buffer)) (eqb (w .queue .posted) (w .queue .size - 1)))
+usual-post w a f = rw (answer-fit w a f) (go (addressWrong a (w .queue .buffer)) (eqb (w .queue .shared .posted) (w .queue .shared .size - 1)))
   where
     go : (b c : Bool) → oneOf (0 ∷ 2 ∷ 3 ∷ []) (cond b 2 (cond c 3 0)) ≡ true
     go true c = refl

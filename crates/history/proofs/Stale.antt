@@ -10,7 +10,7 @@ use Rattle.receive.specs.declared.RxQueue.{RxQueue}
 use Rattle.receive.specs.declared.Packet.{Packet}
 use Rattle.receive.specs.Slots.{Slot}
 use Rattle.receive.specs.Take.{Look, refuse, whole, look, packetOf, takeOf}
-use Rattle.history.specs.World.{World, Event, post, poll, write, posted, slotsIn, postAt, takeAt, after, reply, Allowed, end, replies, AllAllowed, Start}
+use Rattle.history.specs.World.{World, Event, post, poll, write, slotsIn, postAt, takeAt, after, reply, Allowed, end, replies, AllAllowed, Start}
 use Rattle.history.specs.History.{acceptedAt, accepted, writeAt, writes, packets, written, handedUp, waiting}
 use Rattle.history.specs.Demand.{nextOf}
 use Rattle.history.specs.Stale.{SamePosted, Alike, slotsUp, row, NoStale}
@@ -27,10 +27,7 @@ holds-same w v L A h s =
     record {
       fit =
           record {
-            lines = rw (s .queue-same) (h .fit .lines);
-            some = rw (s .queue-same) (h .fit .some);
-            head = rw (s .queue-same) (h .fit .head);
-            posted = rw (s .queue-same) (h .fit .posted);
+            ok = rw (s .queue-same) (h .fit .ok);
             ring = s .ring-long ∙ rw (s .queue-same) (h .fit .ring);
             list = s .list-long ∙ rw (s .queue-same) (h .fit .list);
           };

@@ -1,32 +1,34 @@
 -- What a history keeps: the posted slots are those that the device has written, by its rules, and then those as posted.
 -- Assumes nothing.
 use Prim.Native.Nat.{ℕ, _+_, _-_, _*_, _%_, _<_}
-use native.Mathlib.Nat.{mod-lt, zero-mod, suc-mod, mod-add-mod}
-use native.Mathlib.Numerals.{add-one}
+use native.Mathlib.Nat.{zero-mod, suc-mod, mod-add-mod}
 use native.Mathlib.Omega.{arith}
 use mathlib.Core.Path.{_≡_, refl, sym, ap, _∙_}
 use mathlib.Core.Logic.{_≢_}
 use mathlib.Core.Bool.{true, cond}
 use mathlib.Core.List.{List, [], _∷_, _++_, map, append-assoc, map-append}
-use borrow.Author.Tests.{lt-ltb, eq-eqb, ne-eqb}
+use borrow.Author.Tests.{eq-eqb, ne-eqb}
 use lib.Dec.{T, eqb}
 use lib.ListN.{length, set, drop, length-set, length-append, length-map}
 use lib.Seq.{drop-append-seam, set-at, getD-at}
 use Rattle.rules.specs.Address.{addressWrong}
 use Rattle.ring.specs.Slots.{slotAt, run}
+use Rattle.ring.specs.Queue.{Shared, tailOf}
 use Rattle.ring.proofs.Stores.{length-store}
 use Rattle.ring.proofs.Runs.{length-run, run-mod, run-drop}
 use Rattle.writeback.specs.WriteBack.{Words}
 use Rattle.receive.specs.declared.RxQueue.{RxQueue}
-use Rattle.receive.specs.Queue.{numbersOk, recordOk, lentOk, tailOf, emptyQueue}
+use Rattle.receive.specs.Queue.{recordOk, lentOk, emptyQueue}
 use Rattle.receive.specs.Slots.{Slot, slotIn, storeWords, postedSlots}
 use Rattle.receive.specs.Post.{postAnswer, blank, oneMore}
 use Rattle.receive.specs.Take.{writable, Look, refuse, whole, look, packetOf, advanced, takeBy, takeOf}
-use Rattle.receive.proofs.Laws.{fresh-lines, lines-size, fresh-queue, done-room}
+use Rattle.receive.proofs.Laws.{fresh-lines, fresh-queue, kept, done-room}
+use Rattle.receive.proofs.Posts.{post-adds}
+use Rattle.receive.proofs.Keeps.{one-more-ok, advanced-ok}
 use Rattle.history.specs.World.{World, post, poll, write, posted, slotsIn, postAt, takeAt, after, Start}
 use Rattle.history.specs.History.{unwritten, packets}
 use Rattle.history.proofs.Lists.{wordsIn, Legal, openAfter, first, scan-legal, Cut, legal-append, open-append}
-use Rattle.history.proofs.Ring.{pair, run-store, run-place}
+use Rattle.history.proofs.Ring.{pair, run-store}
 
 -- ---- the calls' effects by what they see
 
@@ -39,8 +41,8 @@ unfoldable pub placed : World → ℕ → World
 placed w a =
     record {
       queue = oneMore (w .queue);
-      ring = storeWords (w .ring) (tailOf (w .queue)) (blank a);
-      list = set (w .list) (tailOf (w .queue)) a;
+      ring = storeWords (w .ring) (tailOf (w .queue .shared)) (blank a);
+      list = set (w .list) (tailOf (w .queue .shared)) a;
       place = w .place;
       part = w .part;
     }
@@ -77,71 +79,68 @@ module _ (w : World) (p : List Slot) (e : seen w ≡ whole p) where
   unfolding takeAt takeOf seen takeBy
   take-some = rw e
 
--- ---- the record's lines, and the slices' lengths
+-- ---- an accepted record, and the slices' lengths
 
 pub record Fit (w : World) : Type 0 where
-  pub lines : numbersOk (w .queue .queue) (w .queue .size) (w .queue .buffer) ≡ true
-  pub some : 0 < w .queue .size
-  pub head : w .queue .head < w .queue .size
-  pub posted : w .queue .posted < w .queue .size
-  pub ring : length (w .ring) ≡ 2 * w .queue .size
-  pub list : length (w .list) ≡ w .queue .size
+  pub ok : recordOk (w .queue) ≡ true
+  pub ring : length (w .ring) ≡ 2 * w .queue .shared .size
+  pub list : length (w .list) ≡ w .queue .shared .size
+
+pub fit-shared : (w : World) → Fit w → Shared (w .queue .shared)
+fit-shared w f = kept (w .queue) (f .ok) .shared-is
 
 pub fit-lent : (w : World) → Fit w → lentOk (w .queue) (length (w .ring)) (length (w .list)) ≡ true
-unfolding lentOk recordOk
-fit-lent w f =
-    rw (f .lines, lt-ltb _ _ (f .head), lt-ltb _ _ (f .posted), eq-eqb _ _ (f .ring), eq-eqb _ _ (f .list))
+unfolding lentOk
+fit-lent w f = rw (f .ok, eq-eqb _ _ (f .ring), eq-eqb _ _ (f .list))
 
 pub answer-fit : (w : World) (a : ℕ) → Fit w
-    → postAt w a .answer ≡ cond (addressWrong a (w .queue .buffer)) 2 (cond (eqb (w .queue .posted) (w .queue .size - 1)) 3 0)
+    → postAt w a .answer ≡ cond (addressWrong a (w .queue .buffer)) 2 (cond (eqb (w .queue .shared .posted) (w .queue .shared .size - 1)) 3 0)
 unfolding postAt postAnswer
 answer-fit w a f = rw (fit-lent w f)
 
 -- a post that is accepted leaves a slot free
-pub room : (w : World) (a : ℕ) → Fit w → postAt w a .answer ≡ 0 → w .queue .posted + 1 < w .queue .size
+pub room : (w : World) (a : ℕ) → Fit w → postAt w a .answer ≡ 0 → w .queue .shared .posted + 1 < w .queue .shared .size
 unfolding postAt
 room w a f e = done-room (w .queue) (length (w .ring)) (length (w .list)) a e
 
-pub view-length : (w : World) → length (slotsIn w) ≡ w .queue .posted
+pub view-length : (w : World) → length (slotsIn w) ≡ w .queue .shared .posted
 unfolding slotsIn postedSlots
-view-length w = length-run (slotIn (w .ring) (w .list)) (w .queue .size) (w .queue .head) (w .queue .posted)
+view-length w = length-run (slotIn (w .ring) (w .list)) (w .queue .shared .size) (w .queue .shared .head) (w .queue .shared .posted)
 
-pub view-placed : (w : World) (a : ℕ) → Fit w → slotsIn (placed w a) ≡ slotsIn w ++ unwritten a ∷ []
-unfolding slotsIn postedSlots placed unwritten
-view-placed w a f =
-    rw (add-one (w .queue .posted))
-    (run-place (w .queue .size) (w .ring) (w .list) (w .queue .head) (w .queue .posted) (f .ring) a (blank a) (f .posted) (f .list))
+pub view-placed : (w : World) (a : ℕ) → postAt w a .answer ≡ 0 → slotsIn (placed w a) ≡ slotsIn w ++ unwritten a ∷ []
+unfolding slotsIn after postAt unwritten
+view-placed w a e = rw (← after-accepted w a e) (post-adds (w .queue) (w .ring) (w .list) a e)
 
 pub view-stored : (w : World) (x : Words) (L : List Slot) (y : Slot) (Z : List Slot) → Fit w
-    → w .place ≡ slotAt (w .queue .head) (w .queue .size) (length L) → length L < w .queue .posted
+    → w .place ≡ slotAt (w .queue .shared .head) (w .queue .shared .size) (length L) → length L < w .queue .shared .posted
     → slotsIn w ≡ L ++ y ∷ Z → slotsIn (stored w x) ≡ L ++ record { address = y .address; words = x } ∷ Z
 unfolding after slotsIn postedSlots
 view-stored w x L y Z f at less e =
     rw at
-    (run-store (w .queue .size) (w .ring) (w .list) (w .queue .head) (w .queue .posted) (f .ring) (length L) x y less (f .posted)
+    (run-store (w .queue .shared .size) (w .ring) (w .list) (w .queue .shared .head) (w .queue .shared .posted) (f .ring) (length L) x y less (fit-shared w f .posted-below)
     ∙ rw (e, getD-at L y Z y (length L) refl, set-at L y Z (record { address = y .address; words = x }) (length L) refl))
 
 pub view-moved : (w : World) (c : ℕ) → slotsIn (moved w c) ≡ drop c (slotsIn w)
 unfolding slotsIn postedSlots moved
 view-moved w c =
-    run-mod (slotIn (w .ring) (w .list)) (w .queue .size) (w .queue .head + c) (w .queue .posted - c)
-    ∙ sym (run-drop (slotIn (w .ring) (w .list)) (w .queue .size) (w .queue .head) c (w .queue .posted))
+    run-mod (slotIn (w .ring) (w .list)) (w .queue .shared .size) (w .queue .shared .head + c) (w .queue .shared .posted - c)
+    ∙ sym (run-drop (slotIn (w .ring) (w .list)) (w .queue .shared .size) (w .queue .shared .head) c (w .queue .shared .posted))
 
 -- ---- the state: L written by the device and not handed back, A posted and not written
 
 pub record Holds (w : World) (L : List Slot) (A : List ℕ) : Type 0 where
   pub fit : Fit w
   pub slots : slotsIn w ≡ L ++ map unwritten A
-  pub place : w .place ≡ slotAt (w .queue .head) (w .queue .size) (length L)
+  pub place : w .place ≡ slotAt (w .queue .shared .head) (w .queue .shared .size) (length L)
   pub part : w .part ≡ openAfter 0 (wordsIn L)
   pub legal : Legal (w .queue .buffer) 0 L
 
-pub holds-count : (w : World) (L : List Slot) (A : List ℕ) → Holds w L A → w .queue .posted ≡ length L + length A
+pub holds-count : (w : World) (L : List Slot) (A : List ℕ) → Holds w L A → w .queue .shared .posted ≡ length L + length A
 holds-count w L A h = sym (view-length w) ∙ rw (h .slots, length-append, length-map)
 
 -- where all posted slots are written the device has come to the tail
-pub holds-tail : (w : World) (L : List Slot) → Holds w L [] → w .place ≡ tailOf (w .queue)
-holds-tail w L h = h .place ∙ ap (λ (k : ℕ). (w .queue .head + k) % w .queue .size) (omega (arith, holds-count w L [] h))
+pub holds-tail : (w : World) (L : List Slot) → Holds w L [] → w .place ≡ tailOf (w .queue .shared)
+holds-tail w L h = h .place ∙ ap (λ (k : ℕ). (w .queue .shared .head + k) % w .queue .shared .size) (omega (arith, holds-count w L [] h))
 
 pub holds-start : (w : World) → Start w → Holds w [] []
 unfolding slotsIn postedSlots run
@@ -149,10 +148,7 @@ holds-start w f =
     record {
       fit =
           record {
-            lines = rw e lines;
-            some = some;
-            head = rw head some;
-            posted = rw none some;
+            ok = rw e lines;
             ring = f .ring-long;
             list = f .list-long;
           };
@@ -162,20 +158,17 @@ holds-start w f =
       legal = tt;
     }
   where
-    lines : numbersOk (f .number) (f .size) (f .buffer) ≡ true
+    lines : recordOk (emptyQueue (f .number) (f .size) (f .buffer)) ≡ true
     lines = fresh-lines (f .number) (f .size) (f .buffer) (f .answer-is)
 
     e : w .queue ≡ emptyQueue (f .number) (f .size) (f .buffer)
     e = f .queue-is ∙ fresh-queue (f .number) (f .size) (f .buffer) lines
 
-    head : w .queue .head ≡ 0
-    head = ap (λ (q : RxQueue). q .head) e
+    head : w .queue .shared .head ≡ 0
+    head = ap (λ (q : RxQueue). q .shared .head) e
 
-    none : w .queue .posted ≡ 0
-    none = ap (λ (q : RxQueue). q .posted) e
-
-    some : 0 < w .queue .size
-    some = rw e (omega (arith, lines-size (f .number) (f .size) (f .buffer) lines))
+    none : w .queue .shared .posted ≡ 0
+    none = ap (λ (q : RxQueue). q .shared .posted) e
 
 pub seen-first : (w : World) (L : List Slot) (A : List ℕ) → Holds w L A → seen w ≡ first (packets L)
 unfolding seen look slotsIn
@@ -187,14 +180,11 @@ holds-post w L A a h e =
     record {
       fit =
           record {
-            lines = h .fit .lines;
-            some = h .fit .some;
-            head = h .fit .head;
-            posted = room w a (h .fit) e;
-            ring = length-store 2 (w .ring) (tailOf (w .queue)) (pair (blank a)) ∙ h .fit .ring;
-            list = length-set (w .list) (tailOf (w .queue)) a ∙ h .fit .list;
+            ok = one-more-ok (w .queue) (h .fit .ok) (room w a (h .fit) e);
+            ring = length-store 2 (w .ring) (tailOf (w .queue .shared)) (pair (blank a)) ∙ h .fit .ring;
+            list = length-set (w .list) (tailOf (w .queue .shared)) a ∙ h .fit .list;
           };
-      slots = view-placed w a (h .fit) ∙ rw (h .slots, append-assoc, map-append);
+      slots = view-placed w a e ∙ rw (h .slots, append-assoc, map-append);
       place = h .place;
       part = h .part;
       legal = h .legal;
@@ -204,10 +194,7 @@ pub fit-stored : (w : World) (x : Words) → Fit w → Fit (stored w x)
 unfolding after
 fit-stored w x f =
     record {
-      lines = f .lines;
-      some = f .some;
-      head = f .head;
-      posted = f .posted;
+      ok = f .ok;
       ring = length-store 2 (w .ring) (w .place) (pair x) ∙ f .ring;
       list = f .list;
     }
@@ -219,7 +206,7 @@ holds-write w L a A x h t =
     record {
       fit = fit-stored w x (h .fit);
       slots = view-stored w x L (unwritten a) (map unwritten A) (h .fit) (h .place) (omega (arith, holds-count w L (a ∷ A) h)) (h .slots) ∙ rw append-assoc;
-      place = rw (h .place, ← suc-mod, length-append) (ap (λ (k : ℕ). k % w .queue .size) (omega arith));
+      place = rw (h .place, ← suc-mod, length-append) (ap (λ (k : ℕ). k % w .queue .shared .size) (omega arith));
       part = rw (map-append, open-append, h .part);
       legal = rw map-append (legal-append (w .queue .buffer) 0 (wordsIn L) (x ∷ []) (h .legal) (rw (← h .part) t, tt));
     }
@@ -230,15 +217,12 @@ holds-take w L A h c =
     record {
       fit =
           record {
-            lines = h .fit .lines;
-            some = h .fit .some;
-            head = mod-lt (w .queue .head + length (c .head)) (h .fit .some);
-            posted = omega (arith, h .fit .posted);
+            ok = advanced-ok (w .queue) (h .fit .ok) (length (c .head));
             ring = h .fit .ring;
             list = h .fit .list;
           };
       slots = view-moved w (length (c .head)) ∙ rw (h .slots, c .run, append-assoc, drop-append-seam);
-      place = rw mod-add-mod (h .place ∙ ap (λ (k : ℕ). k % w .queue .size) (omega (arith, ap length (c .run), length-append (c .head) (c .rest))));
+      place = rw mod-add-mod (h .place ∙ ap (λ (k : ℕ). k % w .queue .shared .size) (omega (arith, ap length (c .run), length-append (c .head) (c .rest))));
       part = h .part ∙ rw (c .run, map-append, open-append, c .closed);
       legal = c .legal;
     }

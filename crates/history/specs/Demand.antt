@@ -7,11 +7,10 @@ use mathlib.Core.Bool.{Bool, true, false, _&&_, _||_}
 use mathlib.Core.List.{List, [], _∷_, _++_, map}
 use lib.Dec.{eqb}
 use lib.ListN.{length, drop}
-use Rattle.ring.specs.Slots.{isDevices}
+use Rattle.ring.specs.Queue.{slotOf, isDevices}
 use Rattle.receive.specs.declared.RxQueue.{RxQueue}
 use Rattle.receive.specs.declared.Packet.{Packet}
 use Rattle.receive.specs.declared.Taken.{Taken}
-use Rattle.receive.specs.Queue.{slotOf}
 use Rattle.receive.specs.Slots.{Slot, slotIn}
 use Rattle.receive.specs.Take.{packetOf, advanced}
 use Rattle.history.specs.World.{World, Event, post, poll, Reply, posted, taken, slotsIn, postAt, takeAt, after, end, replies, AllAllowed}
@@ -38,7 +37,7 @@ allUsual (r ∷ rs) = usual r && allUsual rs
 
 -- slot s is the device's: posted, and not handed back
 abbrev pub Unreturned : World → ℕ → Type 0
-Unreturned w s = isDevices (w .queue .head) (w .queue .size) (w .queue .posted) s ≡ true
+Unreturned w s = isDevices (w .queue .shared) s ≡ true
 
 abbrev pub slotNo : World → ℕ → Slot
 slotNo w s = slotIn (w .ring) (w .list) s
@@ -48,7 +47,7 @@ pub record Demand3 (w : World) (es : List Event) : Type 0 where
   -- Every write went into a posted buffer, the first into the first; the next one goes to the oldest posted slot not yet written.
   pub firstCompleted : completed w es ≡ handedUp w es ++ waiting w es
   pub everyWrite : map (λ (s : Slot). s .words) (written w es) ≡ writes es
-  pub oldestNext : end w es .place ≡ slotOf (end w es .queue) (length (writes es) - returned w es)
+  pub oldestNext : end w es .place ≡ slotOf (end w es .queue .shared) (length (writes es) - returned w es)
   -- "moving each packet's writes to just before its take, and the rest to the end": it is a history that the device's rules allow,
   -- of the same calls and the same writes in their order, with all that the device has written handed back after each call.
   pub lateAllowed : AllAllowed w (late w es)

@@ -6,8 +6,9 @@ use mathlib.Core.Bool.{true, cond}
 use mathlib.Core.List.{List, [], _∷_, _++_, map}
 use lib.ListN.{length, take, replicate}
 use Rattle.ring.specs.Slots.{run}
+use Rattle.ring.specs.Queue.{tailOf}
 use Rattle.writeback.specs.WriteBack.{dd, eop}
-use Rattle.receive.specs.Queue.{freshOf, tailOf}
+use Rattle.receive.specs.Queue.{freshOf}
 use Rattle.receive.specs.Slots.{Slot}
 use Rattle.receive.specs.Take.{packetOf}
 use Rattle.history.specs.World.{World, Event, post, poll, write, Reply, posted, taken, postAt, takeAt, after, Allowed, end, replies, AllAllowed, Start}
@@ -89,7 +90,7 @@ lapped = oneByOne (row single) ++ atOnce full ++ oneByOne (row rest)
 
 -- the slots that an event posts, writes and hands back
 unfoldable pub slotsPosted : World → Event → List ℕ
-slotsPosted w (post a) = ifDone (postAt w a .answer) (tailOf (w .queue))
+slotsPosted w (post a) = ifDone (postAt w a .answer) (tailOf (w .queue .shared))
 slotsPosted w poll = []
 slotsPosted w (write x) = []
 
@@ -100,7 +101,7 @@ slotsWritten w (write x) = w .place ∷ []
 
 unfoldable pub slotsBack : World → Event → List ℕ
 slotsBack w (post a) = []
-slotsBack w poll = run (λ (s : ℕ). s) (w .queue .size) (w .queue .head) (takeAt w .packet .count)
+slotsBack w poll = run (λ (s : ℕ). s) (w .queue .shared .size) (w .queue .shared .head) (takeAt w .packet .count)
 slotsBack w (write x) = []
 
 -- and those of a list of events, in order

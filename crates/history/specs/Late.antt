@@ -31,7 +31,7 @@ calls (e ∷ es) = callAt e ++ calls es
 
 -- every slot that the device has written is handed back: its place is the oldest posted slot
 abbrev pub NoneLeft : World → Type 0
-NoneLeft w = w .place ≡ w .queue .head
+NoneLeft w = w .place ≡ w .queue .shared .head
 
 -- so it is after every call of a history: then each packet's writes come just before the take that hands it up, and no others do
 abbrev pub JustBefore : World → List Event → Type 0

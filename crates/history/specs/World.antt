@@ -7,11 +7,12 @@ use mathlib.Core.Bool.{cond}
 use mathlib.Core.List.{List, [], _∷_, _++_}
 use lib.Dec.{T}
 use lib.ListN.{length}
+use Rattle.ring.specs.Queue.{tailOf}
 use Rattle.writeback.specs.WriteBack.{Words, eop}
 use Rattle.receive.specs.declared.RxQueue.{RxQueue}
 use Rattle.receive.specs.declared.Posted.{Posted}
 use Rattle.receive.specs.declared.Taken.{Taken}
-use Rattle.receive.specs.Queue.{freshOf, tailOf}
+use Rattle.receive.specs.Queue.{freshOf}
 use Rattle.receive.specs.Slots.{Slot, storeWords, postedSlots}
 use Rattle.receive.specs.Post.{postOf, ringAfter, listAfter}
 use Rattle.receive.specs.Take.{writable, takeOf}
@@ -68,7 +69,7 @@ after w (write x) =
       queue = w .queue;
       ring = storeWords (w .ring) (w .place) x;
       list = w .list;
-      place = suc (w .place) % w .queue .size;
+      place = suc (w .place) % w .queue .shared .size;
       part = partAfter (w .part) x;
     }
 
@@ -81,7 +82,7 @@ reply w (write x) = []
 abbrev pub Allowed : World → Event → Type 0
 Allowed w (post a) = Unit {0}
 Allowed w poll = Unit {0}
-Allowed w (write x) = (w .place ≢ tailOf (w .queue)) × T (writable (w .queue .buffer) (w .part) x)
+Allowed w (write x) = (w .place ≢ tailOf (w .queue .shared)) × T (writable (w .queue .buffer) (w .part) x)
 
 -- ---- a list of events
 
@@ -104,7 +105,7 @@ pub record Start (w : World) : Type 0 where
   pub buffer : ℕ
   pub answer-is : freshOf number size buffer .answer ≡ 0
   pub queue-is : w .queue ≡ freshOf number size buffer .queue
-  pub ring-long : length (w .ring) ≡ 2 * w .queue .size
-  pub list-long : length (w .list) ≡ w .queue .size
+  pub ring-long : length (w .ring) ≡ 2 * w .queue .shared .size
+  pub list-long : length (w .list) ≡ w .queue .shared .size
   pub place-is : w .place ≡ 0
   pub part-is : w .part ≡ 0

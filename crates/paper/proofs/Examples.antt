@@ -4,6 +4,7 @@ use mathlib.Core.Path.{refl}
 use Rattle.rules.specs.Rules.{allBelow}
 use Rattle.writeback.specs.WriteBack.{familyOf, writeBackOf}
 use Rattle.ring.specs.Slots.{run}
+use Rattle.ring.specs.Queue.{askedOf}
 use Rattle.receive.specs.Queue as rx
 use Rattle.receive.specs.Slots.{postedSlots}
 use Rattle.receive.specs.Post.{postAnswer}
@@ -16,7 +17,7 @@ use Rattle.transmit.specs.Send.{sendAnswer}
 use Rattle.paper.specs.Paper.{Paper, post, posts, full, written, took, afterTake}
 
 pub examples : Paper
-unfolding allBelow familyOf writeBackOf run rx.recordOk rx.lentOk rx.freshOf rx.askedOf postedSlots postAnswer lengthOk endOk andThen scan look sum padded lastWords packetOf takeBy takeOf interruptOf countBelow someBelow startOf isCrowded piecesOk addressesOk headersOk segmentationOk requestOk tx.recordOk tx.lentOk tx.freshOf sendAnswer post posts full written took afterTake
+unfolding allBelow familyOf writeBackOf run rx.recordOk rx.lentOk rx.freshOf askedOf postedSlots postAnswer lengthOk endOk andThen scan look sum padded lastWords packetOf takeBy takeOf interruptOf countBelow someBelow startOf isCrowded piecesOk addressesOk headersOk segmentationOk requestOk tx.recordOk tx.lentOk tx.freshOf sendAnswer post posts full written took afterTake
 examples =
     record {
       plain-60 = refl;

@@ -139,7 +139,7 @@ pub record Paper : Type 0 where
   pub tail-31 : rx.tailValueOf (full .queue) ≡ record { answer = 0; value = 31 }
   pub one-more : postOf (full .queue) (full .ring) (full .list) 4096 .answer ≡ 3
   -- after a two-slot packet take returns 2,148, head 2; one more post gives tail 0
-  pub two-slots : (took .answer ≡ 0) × (took .packet .count ≡ 2) × (took .packet .total ≡ 2148) × (took .queue .head ≡ 2)
+  pub two-slots : (took .answer ≡ 0) × (took .packet .count ≡ 2) × (took .packet .total ≡ 2148) × (took .queue .shared .head ≡ 2)
   pub tail-0 : rx.tailValueOf (post afterTake .queue) ≡ record { answer = 0; value = 0 }
   -- 54-byte header alone, then 14 pieces of 209, MSS 1,460, TLEN 2,926: segment 0 touches 8, segment 1 touches 9, so 8
   pub segment-0 : touched (pieces 14) 54 1460 2926 0 ≡ 8

@@ -1,6 +1,6 @@
 -- A record given back by any call on an accepted record is accepted again, and so is a fresh one.
 -- Assumes nothing.
-use Prim.Native.Nat.{ℕ}
+use Prim.Native.Nat.{ℕ, _+_, _<_}
 use mathlib.Core.Path.{_≡_, refl}
 use mathlib.Core.Bool.{Bool, true, false, cond}
 use mathlib.Core.List.{List}
@@ -8,13 +8,12 @@ use borrow.Author.Tests.{eqb-true}
 use lib.Dec.{eqb}
 use lib.ListN.{length}
 use Rattle.rules.proofs.Tests.{both}
-use Rattle.ring.specs.declared.Queue.{Queue}
 use Rattle.ring.specs.Queue.{sharedOk}
 use Rattle.ring.proofs.Record.{advanced-keeps, grown-keeps}
 use Rattle.receive.specs.declared.RxQueue.{RxQueue}
-use Rattle.receive.specs.Queue.{bufferOk, recordOk, movedTo, freshOf}
+use Rattle.receive.specs.Queue.{bufferOk, recordOk, freshOf}
 use Rattle.receive.specs.Post.{oneMore, answerTo, postOf}
-use Rattle.receive.specs.Take.{Look, refuse, whole, look, takeBy, takeOf}
+use Rattle.receive.specs.Take.{Look, refuse, whole, look, advanced, takeBy, takeOf}
 use Rattle.receive.proofs.Laws.{fresh-lines, fresh-queue, done-room}
 
 pub fresh-keeps : (queue size buffer : ℕ) → freshOf queue size buffer .answer ≡ 0 → recordOk (freshOf queue size buffer .queue) ≡ true
@@ -25,17 +24,19 @@ module _ (q : RxQueue) (ok : recordOk q ≡ true) where
   unfolding recordOk
   lines = both (sharedOk (q .shared)) (bufferOk (q .buffer)) ok
 
-  -- another shared part that keeps its lines
-  moved : (s : Queue) → sharedOk s ≡ true → recordOk (movedTo q s) ≡ true
+  pub one-more-ok : q .shared .posted + 1 < q .shared .size → recordOk (oneMore q) ≡ true
   unfolding recordOk
-  moved s e = rw (e, lines .1)
+  one-more-ok r = rw (grown-keeps (q .shared) (lines .0) 1 r, lines .1)
+
+  pub advanced-ok : (n : ℕ) → recordOk (advanced q n) ≡ true
+  unfolding recordOk
+  advanced-ok n = rw (advanced-keeps (q .shared) (lines .0) n, lines .1)
 
   pub post-keeps : (ring list : List ℕ) (address : ℕ) → recordOk (postOf q ring list address .queue) ≡ true
   post-keeps ring list address = go (eqb (answerTo q ring list address) 0) refl
     where
       go : (b : Bool) → eqb (answerTo q ring list address) 0 ≡ b → recordOk (cond b (oneMore q) q) ≡ true
-      go true e =
-          moved _ (grown-keeps (q .shared) (lines .0) 1 (done-room q (length ring) (length list) address (eqb-true (answerTo q ring list address) 0 e)))
+      go true e = one-more-ok (done-room q (length ring) (length list) address (eqb-true (answerTo q ring list address) 0 e))
       go false e = ok
 
   pub take-keeps : (ring list : List ℕ) → recordOk (takeOf q ring list .queue) ≡ true
@@ -44,4 +45,4 @@ module _ (q : RxQueue) (ok : recordOk q ≡ true) where
     where
       go : (l : Look) → recordOk (takeBy l q .queue) ≡ true
       go (refuse n) = ok
-      go (whole p) = moved _ (advanced-keeps (q .shared) (lines .0) (length p))
+      go (whole p) = advanced-ok (length p)
