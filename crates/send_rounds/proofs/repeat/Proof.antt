@@ -1,6 +1,7 @@
 -- `send_rounds::repeat` is safe, and ends: each turn leaves fewer. Assumes nothing.
 use mathlib.Core.Path.{_≡_}
 use Prim.Native.Nat.{_-_}
+use native.Mathlib.Omega.{arith}
 use lib.ListN.{length}
 use borrow.Author.Needs.{needs}
 use Rattle.send_rounds.proofs.repeat.Statement.{statement}
@@ -22,8 +23,13 @@ lay-first-requires c κs = tt
 one-round-requires : tie.Need-one-round-requires Inv-loop μ-loop
 one-round-requires c κs = tt
 
+-- the turn's start, as seen from behind its calls
+abbrev turn : tie.After-slice-known10 Inv-loop μ-loop → tie.Then1 Inv-loop μ-loop
+turn c =
+    c .before .before .before .before .before .before .before .before .before .before .before .before .before .before .before .before .before .before .before
+
 add-i : tie.Need-add-i Inv-loop μ-loop
-add-i c = search needs
+add-i c = omega (arith, turn c .if1 .taken, turn c .before .struct-known .given)
 
 loop-less : tie.Need-loop-less Inv-loop μ-loop
 loop-less c = search needs
