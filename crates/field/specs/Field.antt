@@ -69,10 +69,7 @@ abbrev pub free : ℕ → ℕ → List Part → Bool
 free at k [] = true
 free at k (p ∷ ps) = apart (p .at) (p .width) at k && free at k ps
 
--- a flag as a number, and the other way
+-- a flag as a number
 abbrev pub bit : Bool → ℕ
 bit true = 1
 bit false = 0
-
-abbrev pub flagOf : ℕ → ℕ → Bool
-flagOf at w = eqb (fieldOf at 1 w) 1

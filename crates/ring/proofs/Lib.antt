@@ -2,5 +2,4 @@ pub mod Steps
 pub mod Stores
 pub mod Runs
 pub mod Rows
-pub mod Lines
 pub mod Record

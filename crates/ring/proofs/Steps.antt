@@ -3,12 +3,10 @@
 use Prim.Native.Nat.{ℕ, _+_, _-_, _%_, _≤_, _<_}
 use mathlib.Core.Path.{_≡_, sym, ap, _∙_}
 use mathlib.Core.Logic.{_≢_, _⊎_, inl, inr, ⊎-elim}
-use mathlib.Core.Bool.{true}
 use native.Mathlib.Nat.{mod-lt, mod-add-mod, mod-eq-of-lt, mod-eq-sub-mod}
 use native.Mathlib.Decide.{decLt}
 use native.Mathlib.Omega.{arith}
-use borrow.Author.Tests.{lt-ltb, ltb-true}
-use Rattle.ring.specs.Slots.{slotAt, distance, isDevices}
+use Rattle.ring.specs.Slots.{slotAt, distance}
 
 pub slot-below : (head size k : ℕ) → 0 < size → slotAt head size k < size
 slot-below head size k h = mod-lt (head + k) h
@@ -66,11 +64,3 @@ slot-distance head size s h l =
 
     two : head + d ≡ s → (head + d) % size ≡ s
     two e = rw e (mod-eq-of-lt l)
-
--- a slot is the device's exactly if it is one of the posted ones from head upward
-pub devices-slot : (head size posted k : ℕ) → head < size → k < size → k < posted → isDevices head size posted (slotAt head size k) ≡ true
-devices-slot head size posted k h l p = rw (distance-slot head size k h l) (lt-ltb k posted p)
-
-pub devices-only : (head size posted s : ℕ) → head < size → s < size → isDevices head size posted s ≡ true
-    → (k : ℕ) × ((k < posted) × (slotAt head size k ≡ s))
-devices-only head size posted s h l e = (distance head size s, (ltb-true _ _ e, slot-distance head size s h l))

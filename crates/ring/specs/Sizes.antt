@@ -1,6 +1,6 @@
 -- The lines of a queue record that the receive and the transmit queue share (01, "The queue record").
 -- Assumes nothing.
-use Prim.Native.Nat.{ℕ, _≤_, _<_}
+use Prim.Native.Nat.{ℕ}
 use mathlib.Core.Bool.{Bool, _&&_}
 use lib.Dec.{leb, ltb}
 use Rattle.rules.specs.Rules.{inSteps}
@@ -24,14 +24,6 @@ queueOk queue size = leb queue mostQueue && inSteps leastSize mostSize sizeStep 
 -- head below size, posted at most size - 1
 abbrev pub placeOk : ℕ → ℕ → ℕ → Bool
 placeOk size head posted = ltb head size && ltb posted size
-
--- what these lines say, as facts
-pub record Placed (queue size head posted : ℕ) : Type 0 where
-  pub queue-high : queue ≤ mostQueue
-  pub size-low : leastSize ≤ size
-  pub size-high : size ≤ mostSize
-  pub head-below : head < size
-  pub posted-below : posted < size
 
 -- the tail field is 13 bits
 abbrev pub tailBits : ℕ

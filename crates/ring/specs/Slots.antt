@@ -1,25 +1,15 @@
--- The slots of a ring (01, "The queue record"): the slot at a distance, the tail, which slots are the device's.
+-- The slots of a ring (01, "The queue record"): the slot at a distance, how far a slot is, runs of slots.
 -- Assumes nothing.
 use Prim.Native.Nat.{ℕ, zero, suc, _+_, _-_, _%_}
-use mathlib.Core.Bool.{Bool}
 use mathlib.Core.List.{List, [], _∷_}
-use lib.Dec.{ltb}
 
 -- the slot at a distance from head, going upward round a ring of a size
 abbrev pub slotAt : ℕ → ℕ → ℕ → ℕ
 slotAt head size k = (head + k) % size
 
--- tail = (head + posted) mod size
-abbrev pub tailAt : ℕ → ℕ → ℕ → ℕ
-tailAt head size posted = slotAt head size posted
-
 -- how far slot s is from head, going upward round the ring
 abbrev pub distance : ℕ → ℕ → ℕ → ℕ
 distance head size s = (s + (size - head)) % size
-
--- a slot is the device's exactly if its distance from head is less than posted
-abbrev pub isDevices : ℕ → ℕ → ℕ → ℕ → Bool
-isDevices head size posted s = ltb (distance head size s) posted
 
 -- no ring has more slots than this: what keeps the step within a machine's number, whatever the size that a queue allows
 abbrev pub mostSlots : ℕ

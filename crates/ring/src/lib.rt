@@ -1,7 +1,6 @@
 // What every ring shares: the step from head to the slot at a distance, and the part of the queue record that the receive and the
 // transmit queue have in common.
 ghost use mathlib.Core.Path.{_≡_};
-ghost use Rattle.ring.specs.Sizes.{queueOk, placeOk};
 ghost use Rattle.ring.specs.Queue.{Shared, sharedOk, tailOf, registerAt, emptyQueue, advanced, grown, askedOf};
 ghost use Rattle.ring.specs.Steps.{SlotIs, Step, Advance, Grow, Judged};
 
@@ -15,20 +14,6 @@ const SIZE_STEP: usize = 32;
 
 // A queue's tail register stands so many bytes after the one before.
 const REGISTER_STEP: usize = 4;
-
-// The queue number and the size keep their lines.
-pub fn queue_ok(queue: usize, size: usize) -> bool
-    ensures { λ r. ⌜ r ≡ queueOk queue size ⌝ }
-{
-    (queue <= QUEUE_MOST) & (((SIZE_LEAST <= size) & (size <= SIZE_MOST)) & (size % SIZE_STEP == 0))
-}
-
-// Head and posted keep theirs.
-pub fn place_ok(size: usize, head: usize, posted: usize) -> bool
-    ensures { λ r. ⌜ r ≡ placeOk size head posted ⌝ }
-{
-    (head < size) & (posted < size)
-}
 
 // The slot at distance k from head, which is less than a lap.
 pub fn slot(head: usize, size: usize, k: usize) -> usize
