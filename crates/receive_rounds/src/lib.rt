@@ -1,6 +1,4 @@
 // Rounds of receiving: posts, the device's write-backs, and takes. A part of the program `rounds`: what it prints is compared.
-mod results;
-
 use measure::MOST_SLOTS;
 use measure::checksum;
 use measure::device;
@@ -93,7 +91,7 @@ fn hand_up(run: Run, ring: &[u64], list: &[u64], seen: Taken, idle: bool) -> Run
     let queue = taken.queue;
     Run {
         queue,
-        sum: results::taken(run.sum, taken),
+        sum: packet_sum::taken(run.sum, taken),
         at: run.at,
     }
 }

@@ -1,4 +1,4 @@
-// One number over all that a take hands up.
+// One number over all that a take hands up. A part of the program `rounds`: what it prints is compared.
 use measure::checksum::byte;
 use measure::checksum::mix;
 use measure::checksum::number;
@@ -59,7 +59,7 @@ fn packet(sum: u64, p: Packet) -> u64 {
     write_back(lengths(addresses(s, a), l), w)
 }
 
-pub(crate) fn taken(sum: u64, t: Taken) -> u64 {
+pub fn taken(sum: u64, t: Taken) -> u64 {
     let p = t.packet;
     packet(byte(sum, t.answer), p)
 }
