@@ -3,16 +3,16 @@
 use Prim.Native.Nat.{ℕ, _≤_}
 use mathlib.Core.Path.{_≡_, refl}
 use mathlib.Core.Bool.{Bool, true, false, not, _&&_, cond, true≢false}
-use mathlib.Core.List.{List, _++_, [], _∷_}
+use mathlib.Core.List.{List}
 use borrow.Author.Tests.{eqb-false}
-use lib.Dec.{T, eqb}
-use Rattle.rules.specs.Rules.{Check, answerOf, refusing, Answers}
+use Rattle.rules.specs.Rules.{answerOf, Answers}
 use Rattle.rules.proofs.Checks.{has-cause, is-answered}
 use Rattle.segments.specs.Touch.{mostTouched, touched}
 use Rattle.segments.proofs.Meaning.{touched-few}
-use Rattle.offload.specs.declared.Request.{Request}
-use Rattle.offload.specs.Offload.{piecesOk, addressesOk, requestOk, packetChecks}
-use Rattle.offload.proofs.Laws.{plain-few}
+use Rattle.request.specs.declared.Request.{Request}
+use Rattle.pieces.specs.Pieces.{piecesOk, addressesOk}
+use Rattle.pieces.proofs.Laws.{plain-few}
+use Rattle.offload.specs.Offload.{requestOk, packetChecks}
 
 -- 6, 2 and 7 are not 8
 not-eight : (a b c s x : Bool) → s ≡ false → _≡_ {A = ℕ} (cond (not a) 6 (cond (not b) 2 (cond (not c) 7 (cond (s && x) 8 0)))) 8 → ⊥
@@ -39,15 +39,3 @@ module _ (addresses lengths : List ℕ) (maximum : ℕ) (q : Request) where
   pub plain-touches : piecesOk addresses lengths maximum q ≡ true → q .segmented ≡ false → (header mss tlen k : ℕ) → touched lengths header mss tlen k ≤ mostTouched
   plain-touches p e header mss tlen k =
       touched-few lengths header mss tlen (plain-few addresses lengths maximum q p e) k
-
--- checks that follow others are asked where those have passed
-pub asked-next : (cs ds : List Check) → T (refusing cs) → answerOf (cs ++ ds) ≡ cond (eqb (answerOf cs) 0) (answerOf ds) (answerOf cs)
-asked-next [] ds t = refl
-asked-next (c ∷ cs) ds t = go (c .cause) (eqb (c .answer) 0) refl t (λ u. asked-next cs ds u)
-  where
-    go : (b z : Bool) → eqb (c .answer) 0 ≡ z → T (not z && refusing cs)
-        → (T (refusing cs) → answerOf (cs ++ ds) ≡ cond (eqb (answerOf cs) 0) (answerOf ds) (answerOf cs))
-        → cond b (c .answer) (answerOf (cs ++ ds)) ≡ cond (eqb (cond b (c .answer) (answerOf cs)) 0) (answerOf ds) (cond b (c .answer) (answerOf cs))
-    go b true e u r = absurd u
-    go true false e u r = rw e
-    go false false e u r = r u

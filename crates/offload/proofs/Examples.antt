@@ -6,10 +6,11 @@ use mathlib.Core.Bool.{false}
 use mathlib.Core.List.{[], _∷_}
 use Rattle.rules.specs.Rules.{allBelow, answerOf}
 use Rattle.segments.specs.Touch.{startOf}
-use Rattle.offload.specs.declared.IpKind.the-variants.{None as NoIp}
-use Rattle.offload.specs.declared.L4Kind.the-variants.{None as NoL4}
-use Rattle.offload.specs.declared.Request.{Request}
-use Rattle.offload.specs.Offload.{piecesOk, addressesOk, headersOk, segmentationOk, requestOk, packetChecks}
+use Rattle.request.specs.declared.IpKind.the-variants.{None as NoIp}
+use Rattle.request.specs.declared.L4Kind.the-variants.{None as NoL4}
+use Rattle.request.specs.declared.Request.{Request}
+use Rattle.pieces.specs.Pieces.{piecesOk, addressesOk}
+use Rattle.offload.specs.Offload.{headersOk, segmentationOk, requestOk, packetChecks}
 
 abbrev plain : Request
 plain =

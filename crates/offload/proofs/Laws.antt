@@ -1,96 +1,26 @@
--- What the tests of a send say of its numbers.
+-- What the tests of a send's request say of its numbers.
 -- Assumes nothing.
-use Prim.Native.Nat.{ℕ, zero, suc, _+_, _*_, _%_, _≤_, _<_, min}
+use Prim.Native.Nat.{ℕ, _+_, _%_, _≤_}
 use mathlib.Core.Path.{_≡_, refl, sym, _∙_}
-use mathlib.Core.Bool.{Bool, true, false, _&&_, cond, true≢false}
+use mathlib.Core.Bool.{Bool, true, false, _&&_, true≢false}
 use mathlib.Core.List.{List}
 use native.Mathlib.Omega.{arith}
-use borrow.Author.Tests.{leb-true, eqb-true, eqb-false, eq-eqb, ne-eqb}
+use borrow.Author.Tests.{leb-true, eqb-true}
 use lib.Dec.{leb, eqb}
-use lib.ListN.{length, getD}
 use Rattle.rules.specs.Rules.{within, inSteps}
-use Rattle.rules.proofs.Tests.{same, both, within-is, steps-is, all-each}
+use Rattle.rules.proofs.Tests.{both, by-test, within-is, steps-is}
 use Rattle.segments.specs.Touch.{startOf, total, headerWithin}
-use Rattle.segments.specs.Steps.{sumLimit}
-use Rattle.segments.proofs.Starts.{start-zero, start-next}
-use Rattle.offload.specs.declared.IpKind.{IpKind}
-use Rattle.offload.specs.declared.IpKind.the-variants.{None as NoIp, Ipv6, Ipv4, Ipv4Checksum}
-use Rattle.offload.specs.declared.L4Kind.{L4Kind}
-use Rattle.offload.specs.declared.L4Kind.the-variants.{None as NoL4, Tcp, Sctp, Udp}
-use Rattle.offload.specs.declared.Request.{Request}
-use Rattle.offload.specs.Request.{isNoIp, isNoL4, isTcp, hasChecksum, headerOf}
-use Rattle.offload.specs.Offload.{mostLength, plainPieces, mostPieces, mostHeader, mostTlen, leastMss, mostTag, mostPiecesOf, lengthsOk, totalOk, piecesOk, ipLengthOk, l4LengthOk, headersOk, tagOk, segmentedOk, segmentationOk, requestOk}
-use Rattle.offload.specs.Accepted.{Units, Sound}
+use Rattle.request.specs.declared.IpKind.{IpKind}
+use Rattle.request.specs.declared.IpKind.the-variants.{None as NoIp, Ipv6, Ipv4, Ipv4Checksum}
+use Rattle.request.specs.declared.L4Kind.{L4Kind}
+use Rattle.request.specs.declared.L4Kind.the-variants.{None as NoL4, Tcp, Sctp, Udp}
+use Rattle.request.specs.declared.Request.{Request}
+use Rattle.request.specs.Request.{isNoIp, isNoL4, isTcp, hasChecksum, headerOf}
+use Rattle.request.specs.Sound.{mostTlen, mostTag, Units, Sound}
+use Rattle.pieces.specs.Pieces.{piecesOk}
+use Rattle.pieces.proofs.Laws.{pieces-are, pieces-whole}
+use Rattle.offload.specs.Offload.{mostHeader, leastMss, ipLengthOk, l4LengthOk, headersOk, tagOk, segmentedOk, segmentationOk, requestOk}
 use Rattle.offload.specs.Steps.{Segmentable}
-
--- a number that equals one of two numbers exactly if it equals the other
-pub eqb-same : (a b c : ℕ) → (a ≡ b → a ≡ c) → (a ≡ c → a ≡ b) → eqb a b ≡ eqb a c
-eqb-same a b c f g = same (eqb a b) (eqb a c) (λ e. eq-eqb a c (f (eqb-true a b e))) (λ e. ne-eqb a c (λ h. eqb-false a b e (g h)))
-
--- a number below the limit is a sum of numbers exactly if it is the sum of the same, each cut down to the limit
-pub sum-same : (t m i l n : ℕ) {a b c d : ℕ} → t < sumLimit → a ≡ min m sumLimit → b ≡ min i sumLimit → c ≡ min l sumLimit → d ≡ min n sumLimit
-    → eqb t (a + b + c + d) ≡ eqb t (m + i + l + n)
-sum-same t m i l n {a} {b} {c} {d} h p q r s = eqb-same t (a + b + c + d) (m + i + l + n) (λ e. omega arith) (λ e. omega arith)
-
--- one of two things, by a test
-pub by-test : {P : Type 0} (b x y : Bool) → cond b x y ≡ true → (b ≡ true → x ≡ true → P) → (b ≡ false → y ≡ true → P) → P
-by-test true x y e f g = f refl e
-by-test false x y e f g = g refl e
-
--- ---- 6
-
-module _ (lengths : List ℕ) where
-  pub lengths-each : lengthsOk lengths ≡ true → (i : ℕ) → i < length lengths → (1 ≤ getD lengths i 0) × (getD lengths i 0 ≤ mostLength)
-  lengths-each e i l = within-is 1 mostLength (getD lengths i 0) (all-each _ (length lengths) e i l)
-
-  lengths-sum : lengthsOk lengths ≡ true → (i : ℕ) → i ≤ length lengths → startOf lengths i ≤ mostLength * i
-  lengths-sum e zero l = omega (arith, start-zero lengths)
-  lengths-sum e (suc i) l = omega (arith, start-next lengths i, lengths-each e i l, lengths-sum e i (omega arith))
-
-pub most-is : (segmented : Bool) → mostPiecesOf segmented ≤ mostPieces
-most-is true = omega arith
-most-is false = omega arith
-
--- what the tests before the total say: the sum is small
-pub record Counted (addresses lengths : List ℕ) : Type 0 where
-  pub paired : length addresses ≡ length lengths
-  pub some : 1 ≤ length lengths
-  pub few : length lengths ≤ mostPieces
-  pub each : (i : ℕ) → i < length lengths → (1 ≤ getD lengths i 0) × (getD lengths i 0 ≤ mostLength)
-  pub small : total lengths < sumLimit
-
-module _ (addresses lengths : List ℕ) where
-  pub counted : (segmented : Bool) → eqb (length addresses) (length lengths) && within 1 (mostPiecesOf segmented) (length lengths) && lengthsOk lengths ≡ true → Counted addresses lengths
-  counted segmented e =
-      let a = both (eqb (length addresses) (length lengths) && within 1 (mostPiecesOf segmented) (length lengths)) (lengthsOk lengths) e in
-      let b = both (eqb (length addresses) (length lengths)) (within 1 (mostPiecesOf segmented) (length lengths)) (a .0) in
-      let w = within-is 1 (mostPiecesOf segmented) (length lengths) (b .1) in
-      record {
-        paired = eqb-true _ _ (b .0);
-        some = w .0;
-        few = omega (arith, most-is segmented);
-        each = lengths-each lengths (a .1);
-        small = omega (arith, most-is segmented, lengths-sum lengths (a .1) (length lengths) (omega arith));
-      }
-
-  module _ (maximum : ℕ) (q : Request) (e : piecesOk addresses lengths maximum q ≡ true) where
-    apart : (eqb (length addresses) (length lengths) && within 1 (mostPiecesOf (q .segmented)) (length lengths) && lengthsOk lengths ≡ true) × (totalOk (total lengths) maximum q ≡ true)
-    unfolding piecesOk
-    apart = both (eqb (length addresses) (length lengths) && within 1 (mostPiecesOf (q .segmented)) (length lengths) && lengthsOk lengths) _ e
-
-    pub pieces-are : Counted addresses lengths
-    pieces-are = counted (q .segmented) (apart .0)
-
-    pub pieces-whole : q .segmented ≡ true → total lengths ≡ headerOf q + q .tlen
-    pieces-whole s = by-test (q .segmented) _ _ (apart .1) (λ _ h. eqb-true _ _ h) (λ f _. absurd (true≢false (sym s ∙ f)))
-
-    pub plain-few : q .segmented ≡ false → length lengths ≤ plainPieces
-    plain-few s =
-        let b = both (eqb (length addresses) (length lengths) && within 1 (mostPiecesOf (q .segmented)) (length lengths)) (lengthsOk lengths) (apart .0) in
-        let w : length lengths ≤ mostPiecesOf (q .segmented) = within-is 1 (mostPiecesOf (q .segmented)) (length lengths) (both (eqb (length addresses) (length lengths)) _ (b .0) .1) .1 in
-        rw s at w
-
--- ---- 7
 
 fours : (low high n : ℕ) → inSteps low high 4 n ≡ true → (n ≤ high) × (n % 4 ≡ 0)
 fours low high n e = let s = steps-is low high 4 n e in (s .most, s .steps)

@@ -1,4 +1,3 @@
-pub mod Request
 pub mod Offload
 pub mod Accepted
 pub mod Steps

@@ -1,71 +1,27 @@
--- What a send must keep, and the numbers that it is refused with where it does not (01, "Sending"; 6, 2, 7 and 8 of "Numbers that come back").
+-- What the request of a send must keep, and the numbers that a packet to be sent is refused with where it does not keep its rules (01, "Sending"; 6, 2, 7 and 8 of
+-- "Numbers that come back").
 -- Assumes nothing.
 use Prim.Native.Nat.{ℕ, _+_}
 use mathlib.Core.Bool.{Bool, not, _&&_, _||_, cond}
 use mathlib.Core.List.{List, [], _∷_}
 use lib.Dec.{leb, eqb}
-use lib.ListN.{length, getD}
-use Rattle.rules.specs.Rules.{within, inSteps, allBelow, Check, _when_}
-use Rattle.rules.specs.Address.{addressWrong}
+use Rattle.rules.specs.Rules.{within, inSteps, Check, _when_}
 use Rattle.segments.specs.Touch.{total, headerWithin, isCrowded}
-use Rattle.offload.specs.declared.IpKind.{IpKind}
-use Rattle.offload.specs.declared.IpKind.the-variants.{None as NoIp, Ipv6, Ipv4, Ipv4Checksum}
-use Rattle.offload.specs.declared.L4Kind.{L4Kind}
-use Rattle.offload.specs.declared.L4Kind.the-variants.{None as NoL4, Tcp, Sctp, Udp}
-use Rattle.offload.specs.declared.Request.{Request}
-use Rattle.offload.specs.Request.{isNoIp, isNoL4, isTcp, hasChecksum, headerOf}
+use Rattle.request.specs.declared.IpKind.{IpKind}
+use Rattle.request.specs.declared.IpKind.the-variants.{None as NoIp, Ipv6, Ipv4, Ipv4Checksum}
+use Rattle.request.specs.declared.L4Kind.{L4Kind}
+use Rattle.request.specs.declared.L4Kind.the-variants.{None as NoL4, Tcp, Sctp, Udp}
+use Rattle.request.specs.declared.Request.{Request}
+use Rattle.request.specs.Request.{isNoIp, isNoL4, isTcp, hasChecksum, headerOf}
+use Rattle.request.specs.Sound.{mostTlen, mostTag}
+use Rattle.pieces.specs.Pieces.{piecesOk, addressesOk}
 
 -- the limits
-abbrev pub mostLength : ℕ
-mostLength = 16383
-
-abbrev pub plainPieces : ℕ
-plainPieces = 8
-
-abbrev pub mostPieces : ℕ
-mostPieces = 4094
-
-abbrev pub leastTotal : ℕ
-leastTotal = 17
-
 abbrev pub mostHeader : ℕ
 mostHeader = 512
 
-abbrev pub mostTlen : ℕ
-mostTlen = 262143
-
 abbrev pub leastMss : ℕ
 leastMss = 88
-
-abbrev pub mostTag : ℕ
-mostTag = 65535
-
--- ---- 6
-
--- plain: 1 to 8 pieces; segmented: 1 to 4,094
-abbrev pub mostPiecesOf : Bool → ℕ
-mostPiecesOf segmented = cond segmented mostPieces plainPieces
-
--- each length is 1 to 16,383
-abbrev pub lengthsOk : List ℕ → Bool
-lengthsOk lengths = allBelow (length lengths) (λ i. within 1 mostLength (getD lengths i 0))
-
--- plain: total 17 to the maximum frame; segmented: total = header + TLEN
-abbrev pub totalOk : ℕ → ℕ → Request → Bool
-totalOk sum maximum q = cond (q .segmented) (eqb sum (headerOf q + q .tlen)) (within leastTotal maximum sum)
-
-unfoldable pub piecesOk : List ℕ → List ℕ → ℕ → Request → Bool
-piecesOk addresses lengths maximum q =
-    eqb (length addresses) (length lengths)
-    && within 1 (mostPiecesOf (q .segmented)) (length lengths)
-    && lengthsOk lengths
-    && totalOk (total lengths) maximum q
-
--- ---- 2
-
--- no piece has a wrong address
-unfoldable pub addressesOk : List ℕ → List ℕ → Bool
-addressesOk addresses lengths = allBelow (length lengths) (λ i. not (addressWrong (getD addresses i 0) (getD lengths i 0)))
 
 -- ---- 7
 

@@ -3,7 +3,7 @@
 use Prim.Native.Nat.{ℕ, zero, suc, _<_}
 use mathlib.Core.Path.{_≡_, refl, sym}
 use mathlib.Core.Bool.{Bool, true, false, not, _&&_, cond}
-use mathlib.Core.List.{List, [], _∷_}
+use mathlib.Core.List.{List, _++_, [], _∷_}
 use native.Mathlib.Omega.{arith}
 use borrow.Author.Tests.{eqb-false}
 use lib.Dec.{T, eqb}
@@ -77,3 +77,15 @@ passed (c ∷ cs) t e i = go (c .cause) (eqb (c .answer) 0) refl refl e t i (λ 
 pub passes : (cs : List Check) → ((i : ℕ) → nth cs i .cause ≡ false) → answerOf cs ≡ 0
 passes [] h = refl
 passes (c ∷ cs) h = rw (h 0) (passes cs (λ i. h (suc i)))
+
+-- checks that follow others are asked where those have passed
+pub asked-next : (cs ds : List Check) → T (refusing cs) → answerOf (cs ++ ds) ≡ cond (eqb (answerOf cs) 0) (answerOf ds) (answerOf cs)
+asked-next [] ds t = refl
+asked-next (c ∷ cs) ds t = go (c .cause) (eqb (c .answer) 0) refl t (λ u. asked-next cs ds u)
+  where
+    go : (b z : Bool) → eqb (c .answer) 0 ≡ z → T (not z && refusing cs)
+        → (T (refusing cs) → answerOf (cs ++ ds) ≡ cond (eqb (answerOf cs) 0) (answerOf ds) (answerOf cs))
+        → cond b (c .answer) (answerOf (cs ++ ds)) ≡ cond (eqb (cond b (c .answer) (answerOf cs)) 0) (answerOf ds) (cond b (c .answer) (answerOf cs))
+    go b true e u r = absurd u
+    go true false e u r = rw e
+    go false false e u r = r u

@@ -2,11 +2,11 @@
 -- Assumes nothing.
 use Prim.Native.Nat.{ℕ, zero, suc, _+_, _%_, _≤_, _<_}
 use mathlib.Core.Path.{_≡_, refl, sym, _∙_}
-use mathlib.Core.Bool.{Bool, true, false, _&&_, and-false, false≢true, true≢false}
+use mathlib.Core.Bool.{Bool, true, false, _&&_, cond, and-false, false≢true, true≢false}
 use mathlib.Core.List.{List, [], _∷_}
 use native.Mathlib.Numerals.{add-one}
 use native.Mathlib.Decide.{le-ind}
-use borrow.Author.Tests.{le-leb, lt-leb, leb-true, leb-false, lt-ltb, le-ltb, ltb-true, ltb-false, eqb-true}
+use borrow.Author.Tests.{le-leb, lt-leb, leb-true, leb-false, lt-ltb, le-ltb, ltb-true, ltb-false, eq-eqb, ne-eqb, eqb-true, eqb-false}
 use lib.Dec.{leb, ltb, eqb}
 use lib.ListN.{getD}
 use Rattle.rules.specs.Rules.{within, inSteps, anyFrom, anyOf, allBelow}
@@ -19,6 +19,11 @@ both false b e = absurd (false≢true e)
 pub and-both : {a b : Bool} → a ≡ true → b ≡ true → a && b ≡ true
 and-both p q = rw (p, q)
 
+-- one of two things, by a test
+pub by-test : {P : Type 0} (b x y : Bool) → cond b x y ≡ true → (b ≡ true → x ≡ true → P) → (b ≡ false → y ≡ true → P) → P
+by-test true x y e f g = f refl e
+by-test false x y e f g = g refl e
+
 -- two tests with the same outcome
 pub same : (s t : Bool) → (s ≡ true → t ≡ true) → (s ≡ false → t ≡ false) → s ≡ t
 same true t f g = sym (f refl)
@@ -29,6 +34,9 @@ leb-same a b c d f g = same (leb a b) (leb c d) (λ e. le-leb c d (f (leb-true a
 
 pub ltb-same : (a b c d : ℕ) → (a < b → c < d) → (b ≤ a → d ≤ c) → ltb a b ≡ ltb c d
 ltb-same a b c d f g = same (ltb a b) (ltb c d) (λ e. lt-ltb c d (f (ltb-true a b e))) (λ e. le-ltb c d (g (ltb-false a b e)))
+
+pub eqb-same : (a b c : ℕ) → (a ≡ b → a ≡ c) → (a ≡ c → a ≡ b) → eqb a b ≡ eqb a c
+eqb-same a b c f g = same (eqb a b) (eqb a c) (λ e. eq-eqb a c (f (eqb-true a b e))) (λ e. ne-eqb a c (λ h. eqb-false a b e (g h)))
 
 pub within-is : (low high x : ℕ) → within low high x ≡ true → (low ≤ x) × (x ≤ high)
 within-is low high x e = let h = both (leb low x) (leb x high) e in (leb-true low x (h .0), leb-true x high (h .1))

@@ -4,8 +4,10 @@ use mathlib.Core.Path.{_≡_, sym, _∙_}
 use mathlib.Core.Bool.{true}
 use native.Mathlib.Omega.{arith}
 use borrow.Author.Needs.{needs}
-use Rattle.offload.specs.Offload.{piecesOk, addressesOk, requestOk}
-use Rattle.offload.proofs.Laws.{pieces-are, segmentable}
+use Rattle.pieces.specs.Pieces.{piecesOk, addressesOk}
+use Rattle.pieces.proofs.Laws.{found-is, pieces-are}
+use Rattle.offload.specs.Offload.{requestOk}
+use Rattle.offload.proofs.Laws.{segmentable}
 use Rattle.offload.proofs.judge.Statement.{statement}
 use Rattle.offload.proofs.judge.Tie as tie
 
@@ -14,22 +16,22 @@ entry c = c .before .before .before .before
 
 -- the tests of 6, 2 and 7, where they have passed
 right : (c : tie.Then1) → piecesOk (entry c .args .addresses .now) (entry c .args .lengths .now) (entry c .args .maximum-frame) (entry c .args .request) ≡ true
-right c = sym (c .before .pieces .ensures .ok-is) ∙ c .if1 .taken
+right c = sym (found-is _ _ _ _ (c .before .look .ensures) .ok-is) ∙ c .if1 .taken
 
 addresses-ok : (c : tie.Then2) → addressesOk (entry (c .before) .args .addresses .now) (entry (c .before) .args .lengths .now) ≡ true
-addresses-ok c = sym (c .before .before .pieces .ensures .addresses-is (c .before .if1 .taken)) ∙ c .if2 .taken
+addresses-ok c = sym (found-is _ _ _ _ (c .before .before .look .ensures) .addresses-is (c .before .if1 .taken)) ∙ c .if2 .taken
 
 request : (c : tie.Then3)
     → requestOk (entry (c .before .before .before) .args .lengths .now) (entry (c .before .before .before) .args .maximum-frame) (entry (c .before .before .before) .args .request) ≡ true
 request c = sym (c .before .request-ok .ensures) ∙ c .if3 .taken
 
-pieces-requires : tie.Need-pieces-requires
-pieces-requires c κs = search needs
+look-requires : tie.Need-look-requires
+look-requires c κs = search needs
 
 request-ok-requires : tie.Need-request-ok-requires
 request-ok-requires c κs =
     let k = pieces-are _ _ _ _ (right (c .before)) in
-    record { is = c .before .before .pieces .ensures .total-is (c .before .if1 .taken); small = omega arith }
+    record { is = found-is _ _ _ _ (c .before .before .look .ensures) .total-is (c .before .if1 .taken); small = omega arith }
 
 crowds-requires : tie.Need-crowds-requires
 crowds-requires c κs = segmentable _ _ _ (request c) _ (right (c .before .before .before))
@@ -52,12 +54,12 @@ returns-3 c =
 returns-4 : tie.Need-returns-4
 returns-4 c =
     let t = c .before in
-    rw (right t, sym (t .before .pieces .ensures .addresses-is (t .if1 .taken)) ∙ c .if2 .left)
+    rw (right t, sym (found-is _ _ _ _ (t .before .look .ensures) .addresses-is (t .if1 .taken)) ∙ c .if2 .left)
 
 returns-5 : tie.Need-returns-5
-returns-5 c = rw (sym (c .before .pieces .ensures .ok-is) ∙ c .if1 .left)
+returns-5 c = rw (sym (found-is _ _ _ _ (c .before .look .ensures) .ok-is) ∙ c .if1 .left)
 
 pub judge-spec : {M : Type 1} → statement M
 judge-spec =
     tie.close
-    (tie.spec pieces-requires request-ok-requires crowds-requires returns returns-2 returns-3 returns-4 returns-5)
+    (tie.spec look-requires request-ok-requires crowds-requires returns returns-2 returns-3 returns-4 returns-5)

@@ -2,8 +2,8 @@
 -- Assumes nothing.
 use mathlib.Core.Path.{sym, _∙_}
 use native.Mathlib.Omega.{arith}
+use Rattle.request.specs.Sound.{Units}
 use Rattle.offload.specs.Offload.{requestOk}
-use Rattle.offload.specs.Accepted.{Units}
 use Rattle.offload.proofs.Laws.{headers-are}
 use borrow.Author.Needs.{needs}
 use Rattle.offload.proofs.request_ok.Statement.{statement}

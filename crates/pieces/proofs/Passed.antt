@@ -13,16 +13,18 @@ use Rattle.rules.specs.Address.{addressWrong}
 use Rattle.rules.proofs.Tests.{both, and-both, within-is, all-none, all-more, all-no}
 use Rattle.segments.specs.Touch.{startOf}
 use Rattle.segments.proofs.Starts.{start-zero, start-step}
-use Rattle.offload.specs.Offload.{mostLength, mostPiecesOf, lengthsOk}
-use Rattle.offload.specs.Steps.{Walkable}
-use Rattle.offload.proofs.Laws.{most-is}
+use Rattle.request.specs.Sound.{mostLength}
+use Rattle.pieces.specs.declared.Found.{Found}
+use Rattle.pieces.specs.Pieces.{mostPiecesOf, countOk, lengthsOk, addressesOk, foundIf}
+use Rattle.pieces.specs.Steps.{Walkable}
+use Rattle.pieces.proofs.Laws.{most-is}
 
 abbrev lengthAt : List ℕ → ℕ → Bool
 lengthAt lengths i = within 1 mostLength (getD lengths i 0)
 
 -- a length that is wrong
-pub stopped : (lengths : List ℕ) (i : ℕ) → i < length lengths → lengthAt lengths i ≡ false → false ≡ lengthsOk lengths
-stopped lengths i l e = sym (all-no (lengthAt lengths) (length lengths) i l e)
+pub stopped : (lengths : List ℕ) (i : ℕ) → i < length lengths → lengthAt lengths i ≡ false → lengthsOk lengths ≡ false
+stopped lengths i l e = all-no (lengthAt lengths) (length lengths) i l e
 
 module _ (addresses lengths : List ℕ) where
   abbrev addressAt : ℕ → Bool
@@ -49,8 +51,13 @@ module _ (addresses lengths : List ℕ) where
         small = omega (arith, within-is 1 mostLength (getD lengths i 0) e);
       }
 
+  pub last : {addresses-ok : Bool} {sum : ℕ} → Passed addresses-ok sum (length lengths)
+      → _≡_ {A = Found} (record { ok = true; «addresses_ok» = addresses-ok; total = sum }) (foundIf (lengthsOk lengths) true addresses lengths)
+  unfolding addressesOk
+  last p = rw (sym (p .right), p .addresses-is, p .sum-is)
+
   -- the count of the pieces
-  pub walkable : (segmented : Bool) → eqb (length addresses) (length lengths) && within 1 (mostPiecesOf segmented) (length lengths) ≡ true → Walkable addresses lengths
+  pub walkable : (segmented : Bool) → countOk addresses lengths segmented ≡ true → Walkable addresses lengths
   walkable segmented e =
       let b = both (eqb (length addresses) (length lengths)) (within 1 (mostPiecesOf segmented) (length lengths)) e in
       let w = within-is 1 (mostPiecesOf segmented) (length lengths) (b .1) in

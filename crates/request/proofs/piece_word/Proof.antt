@@ -1,10 +1,10 @@
--- `offload::piece_word` meets its contract.
+-- `request::piece_word` meets its contract.
 -- Assumes nothing.
 use mathlib.Core.Path.{ap, _∙_}
 use Rattle.descriptor.specs.Words.{dataWord}
 use borrow.Author.Needs.{needs}
-use Rattle.offload.proofs.piece_word.Statement.{statement}
-use Rattle.offload.proofs.piece_word.Tie as tie
+use Rattle.request.proofs.piece_word.Statement.{statement}
+use Rattle.request.proofs.piece_word.Tie as tie
 
 data-of-requires : tie.Need-data-of-requires
 data-of-requires c κs = search needs

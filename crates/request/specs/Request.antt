@@ -5,11 +5,11 @@ use mathlib.Core.Bool.{Bool, _||_, cond}
 use lib.Dec.{eqb}
 use Rattle.descriptor.specs.declared.Data.{Data}
 use Rattle.descriptor.specs.declared.Context.{Context}
-use Rattle.offload.specs.declared.IpKind.{IpKind}
-use Rattle.offload.specs.declared.IpKind.the-variants.{None as NoIp, Ipv6, Ipv4, Ipv4Checksum}
-use Rattle.offload.specs.declared.L4Kind.{L4Kind}
-use Rattle.offload.specs.declared.L4Kind.the-variants.{None as NoL4, Tcp, Sctp, Udp}
-use Rattle.offload.specs.declared.Request.{Request}
+use Rattle.request.specs.declared.IpKind.{IpKind}
+use Rattle.request.specs.declared.IpKind.the-variants.{None as NoIp, Ipv6, Ipv4, Ipv4Checksum}
+use Rattle.request.specs.declared.L4Kind.{L4Kind}
+use Rattle.request.specs.declared.L4Kind.the-variants.{None as NoL4, Tcp, Sctp, Udp}
+use Rattle.request.specs.declared.Request.{Request}
 
 -- the number of an IP kind, 00b to 11b, and of an L4 kind
 abbrev pub iiptOf : IpKind → ℕ

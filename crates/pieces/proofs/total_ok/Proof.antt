@@ -1,9 +1,9 @@
--- `offload::total_ok` meets its contract: a total below the cap is no sum with a capped number in it.
+-- `pieces::total_ok` meets its contract: a total below the cap is no sum with a capped number in it.
 -- Assumes nothing.
 use borrow.Author.Needs.{needs}
-use Rattle.offload.proofs.Laws.{sum-same}
-use Rattle.offload.proofs.total_ok.Statement.{statement}
-use Rattle.offload.proofs.total_ok.Tie as tie
+use Rattle.pieces.proofs.Laws.{sum-same}
+use Rattle.pieces.proofs.total_ok.Statement.{statement}
+use Rattle.pieces.proofs.total_ok.Tie as tie
 
 capped-requires : tie.Need-capped-requires
 capped-requires c κs = search needs

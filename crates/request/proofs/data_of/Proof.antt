@@ -1,8 +1,8 @@
--- `offload::data_of` meets its contract: the two numbers are those of the kinds.
+-- `request::data_of` meets its contract: the two numbers are those of the kinds.
 -- Assumes nothing.
 use borrow.Author.Needs.{needs}
-use Rattle.offload.proofs.data_of.Statement.{statement}
-use Rattle.offload.proofs.data_of.Tie as tie
+use Rattle.request.proofs.data_of.Statement.{statement}
+use Rattle.request.proofs.data_of.Tie as tie
 
 iipt-requires : tie.Need-iipt-requires
 iipt-requires c κs = search needs

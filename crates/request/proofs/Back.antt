@@ -10,14 +10,13 @@ use Rattle.descriptor.specs.declared.Context.{Context}
 use Rattle.descriptor.specs.Words.{dataWord, readData, DataFits, contextWord, readContext, ContextFits}
 use Rattle.descriptor.proofs.RoundTrip.{data-back, context-back}
 use Rattle.descriptor.proofs.Bits.{own, pieces-alike}
-use Rattle.offload.specs.declared.IpKind.{IpKind}
-use Rattle.offload.specs.declared.IpKind.the-variants.{None as NoIp, Ipv6, Ipv4, Ipv4Checksum}
-use Rattle.offload.specs.declared.L4Kind.{L4Kind}
-use Rattle.offload.specs.declared.L4Kind.the-variants.{None as NoL4, Tcp, Sctp, Udp}
-use Rattle.offload.specs.declared.Request.{Request}
-use Rattle.offload.specs.Request.{iiptOf, l4tOf, ipKindOf, l4KindOf, dataOf, contextOf, requestOf}
-use Rattle.offload.specs.Offload.{mostLength}
-use Rattle.offload.specs.Accepted.{Sound}
+use Rattle.request.specs.declared.IpKind.{IpKind}
+use Rattle.request.specs.declared.IpKind.the-variants.{None as NoIp, Ipv6, Ipv4, Ipv4Checksum}
+use Rattle.request.specs.declared.L4Kind.{L4Kind}
+use Rattle.request.specs.declared.L4Kind.the-variants.{None as NoL4, Tcp, Sctp, Udp}
+use Rattle.request.specs.declared.Request.{Request}
+use Rattle.request.specs.Request.{iiptOf, l4tOf, ipKindOf, l4KindOf, dataOf, contextOf, requestOf}
+use Rattle.request.specs.Sound.{mostLength, Sound}
 
 -- a kind is the kind of its number, which has two bits
 ip-back : (k : IpKind) → (ipKindOf (iiptOf k) ≡ k) × (iiptOf k < 2 ^ 2)

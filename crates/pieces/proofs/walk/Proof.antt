@@ -1,16 +1,15 @@
--- `offload::walk` meets its contract: the invariant is what holds of the pieces passed.
+-- `pieces::walk` meets its contract: the invariant is what holds of the pieces passed.
 -- Assumes nothing.
 use Prim.Native.Nat.{_-_}
 use mathlib.Core.Path.{_≡_}
-use mathlib.Core.Bool.{false≢true}
 use native.Mathlib.Omega.{arith}
 use borrow.Author.Needs.{needs}
 use lib.ListN.{length, getD}
 use Rattle.rules.proofs.Tests.{within-is}
-use Rattle.offload.specs.Offload.{mostLength, addressesOk}
-use Rattle.offload.proofs.Passed.{Passed, first, next, stopped}
-use Rattle.offload.proofs.walk.Statement.{statement}
-use Rattle.offload.proofs.walk.Tie as tie
+use Rattle.request.specs.Sound.{mostLength}
+use Rattle.pieces.proofs.Passed.{Passed, first, next, last, stopped}
+use Rattle.pieces.proofs.walk.Statement.{statement}
+use Rattle.pieces.proofs.walk.Tie as tie
 
 abbrev Inv-loop : tie.InvT-loop
 Inv-loop addresses lengths addresses-ok₀ total₀ i₀ addresses-ok total i = Passed addresses lengths addresses-ok total i
@@ -45,11 +44,7 @@ add-total c =
 returns : tie.Need-returns Inv-loop μ-loop
 returns c =
     let s = c .before .before .before .before .before .before in
-    record {
-      ok-is = stopped (s .args .lengths .now) (c .before .before .before .loop .i) (omega arith) (c .if1 .left);
-      addresses-is = λ e. absurd (false≢true e);
-      total-is = λ e. absurd (false≢true e);
-    }
+    rw (stopped (s .args .lengths .now) (c .before .before .before .loop .i) (omega arith) (c .if1 .left))
 
 add-i : tie.Need-add-i Inv-loop μ-loop
 add-i c = omega arith
@@ -61,11 +56,9 @@ loop-again : tie.Need-loop-again Inv-loop μ-loop
 loop-again c = next _ _ (c .before .before .before .before .before .loop .inv) (omega arith) (c .before .before .if1 .taken) (c .address-wrong .ensures)
 
 returns-2 : tie.Need-returns-2 Inv-loop μ-loop
-unfolding addressesOk
 returns-2 c =
-    let p = c .before .loop .inv in
     let e : c .before .loop .i ≡ length (c .before .before .before .before .args .lengths .now) = omega arith in
-    record { ok-is = rw e at (p .right); addresses-is = λ _. rw e at (p .addresses-is); total-is = λ _. rw e at (p .sum-is) }
+    last _ _ (rw e at (c .before .loop .inv))
 
 pub walk-spec : {M : Type 1} → statement M
 walk-spec =
