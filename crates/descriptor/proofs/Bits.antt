@@ -2,7 +2,7 @@
 -- Assumes nothing.
 use Prim.Native.Nat.{ℕ, _+_, _%_, _^_}
 use mathlib.Core.Path.{_≡_, sym, ap, _∙_}
-use mathlib.Core.Bool.{Bool, true, false}
+use mathlib.Core.Bool.{Bool, false}
 use mathlib.Core.List.{List, [], _∷_}
 use native.Mathlib.Nat.{mod-lt}
 use native.Mathlib.Omega.{arith}
@@ -14,7 +14,7 @@ use Rattle.field.proofs.Laws.{reads, reads-free, put-apart}
 use Rattle.descriptor.specs.declared.Data.{Data}
 use Rattle.descriptor.specs.declared.Context.{Context}
 use Rattle.descriptor.specs.Words.{typeLine, crcLine, tsoLine, eopLine, rsLine, lengthLine, dataParts, dataWord, pieceOf, contextParts, contextWord}
-pub use Rattle.descriptor.specs.Words.{own}
+use Rattle.descriptor.specs.Words.{own}
 
 module _ (d : Data) where
   -- a field that no line of the table shares a bit with is 0: 8, 11 and 15:14

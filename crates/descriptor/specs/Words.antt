@@ -3,8 +3,7 @@
 use Prim.Native.Nat.{ℕ}
 use mathlib.Core.Bool.{Bool}
 use mathlib.Core.List.{List, [], _∷_}
-use Rattle.field.specs.Field.{Part, part, Line, isSet, Fits, wordOf, bit}
-pub use Rattle.field.specs.Field.{readAt}
+use Rattle.field.specs.Field.{Part, part, Line, isSet, Fits, wordOf, bit, readAt}
 use Rattle.descriptor.specs.declared.Data.{Data}
 use Rattle.descriptor.specs.declared.Context.{Context}
 

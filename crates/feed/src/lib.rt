@@ -1,7 +1,7 @@
 // Input that comes in pieces: the lines of a text of which a lent memory holds a part.
 ghost use mathlib.Core.Path.{_≡_};
 ghost use mathlib.Core.Bool.{false};
-ghost use Prim.Native.Nat.{_+_, min};
+ghost use Prim.Native.Nat.{min};
 ghost use lib.ListN.{take};
 ghost use lib.Seq.{slice};
 ghost use Rattle.feed.specs.Feeding.{noLines, nextOf, lastOf, moreOf, RoomMade, MovedDown};

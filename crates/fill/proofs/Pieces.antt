@@ -16,8 +16,8 @@ use Rattle.ring.specs.Slots.{slotAt}
 use Rattle.ring.specs.Memory.{store, storeRun}
 use Rattle.ring.proofs.Rows.{row-more}
 use Rattle.descriptor.specs.Words.{dataWord, lengthLine}
-use Rattle.offload.specs.declared.Request.{Request}
-use Rattle.offload.specs.Request.{slotsOf, dataOf}
+use Rattle.request.specs.declared.Request.{Request}
+use Rattle.request.specs.Request.{slotsOf, dataOf}
 use Rattle.fill.specs.Descriptors.{pieceNumbers, contextNumbers, descriptor}
 use Rattle.fill.specs.Steps.{leadingNumbers}
 use Rattle.fill.proofs.Rows.{row-agree, row-first}

@@ -8,8 +8,8 @@ use native.Mathlib.Omega.{arith}
 use borrow.Author.Tests.{ne-eqb}
 use lib.Dec.{eqb}
 use lib.ListN.{length}
-use Rattle.offload.specs.declared.Request.{Request}
-use Rattle.offload.specs.Request.{slotsOf}
+use Rattle.request.specs.declared.Request.{Request}
+use Rattle.request.specs.Request.{slotsOf}
 use Rattle.fill.specs.Descriptors.{pieceNumbers, contextNumbers, descriptor}
 
 -- more pieces take more slots

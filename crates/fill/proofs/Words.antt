@@ -1,6 +1,6 @@
 -- A value joined by `|` into a field that is 0, and so a piece's length into what is alike on all pieces of a send.
 -- Assumes nothing.
-use Prim.Native.Nat.{ℕ, _+_, _*_, _/_, _%_, _^_, _-_, _<_}
+use Prim.Native.Nat.{ℕ, _+_, _*_, _/_, _%_, _^_, _<_}
 use mathlib.Core.Path.{_≡_, sym, ap, ap₂, _∙_, subst}
 use mathlib.Core.Bool.{Bool}
 use mathlib.Core.List.{[], _∷_}
@@ -12,8 +12,8 @@ use lib.Pow.{pow-pos, pow-add, pow-mono, split, mod-pow-add}
 use Rattle.field.specs.Field.{fieldOf, placed, wordOf}
 use Rattle.field.proofs.Laws.{reads}
 use Rattle.descriptor.specs.Words.{dataParts, dataWord, lengthLine}
-use Rattle.offload.specs.declared.Request.{Request}
-use Rattle.offload.specs.Request.{dataOf}
+use Rattle.request.specs.declared.Request.{Request}
+use Rattle.request.specs.Request.{dataOf}
 
 -- over position and width: the word's bits above the field, and those below it, stay
 pub or-put : (at k v w : ℕ) → fieldOf at k w ≡ 0 → v < 2 ^ k → bitOr w (v * 2 ^ at) ≡ w + v * 2 ^ at

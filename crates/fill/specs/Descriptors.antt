@@ -6,8 +6,8 @@ use mathlib.Core.List.{List, [], _∷_}
 use lib.Dec.{eqb}
 use lib.ListN.{length, getD}
 use Rattle.descriptor.specs.Words.{dataWord, contextWord}
-use Rattle.offload.specs.declared.Request.{Request}
-use Rattle.offload.specs.Request.{dataOf, contextOf}
+use Rattle.request.specs.declared.Request.{Request}
+use Rattle.request.specs.Request.{dataOf, contextOf}
 
 -- EOP and RS stand on the last data descriptor only
 abbrev pub isLast : List ℕ → ℕ → Bool

@@ -4,13 +4,13 @@ ghost use mathlib.Core.List.{[], _∷_};
 ghost use Prim.Native.Nat.{_+_, _-_, _*_, _<_};
 ghost use lib.ListN.{length};
 ghost use Rattle.ring.specs.Memory.{store, storeRun};
-ghost use Rattle.offload.specs.Request.{slotsOf};
+ghost use Rattle.request.specs.Request.{slotsOf};
 ghost use Rattle.fill.specs.Descriptors.{pieceNumbers, descriptor};
 ghost use Rattle.fill.specs.Steps.{Room, leadingNumbers};
 use descriptor::LENGTH;
-use offload::Request;
-use offload::piece_word;
-use offload::segmentation_word;
+use request::Request;
+use request::piece_word;
+use request::segmentation_word;
 
 // The two words of a slot.
 fn put_slot(ring: &mut [u64], slot: usize, first: u64, second: u64)

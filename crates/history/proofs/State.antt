@@ -25,7 +25,7 @@ use Rattle.receive.specs.Take.{writable, Look, refuse, whole, look, packetOf, a
 use Rattle.receive.proofs.Laws.{fresh-lines, fresh-queue, kept, done-room}
 use Rattle.receive.proofs.Posts.{post-adds}
 use Rattle.receive.proofs.Keeps.{one-more-ok, advanced-ok}
-use Rattle.history.specs.World.{World, post, poll, write, posted, slotsIn, postAt, takeAt, after, Start}
+use Rattle.history.specs.World.{World, post, poll, write, slotsIn, postAt, takeAt, after, Start}
 use Rattle.history.specs.History.{unwritten, packets}
 use Rattle.history.proofs.Lists.{wordsIn, Legal, openAfter, first, scan-legal, Cut, legal-append, open-append}
 use Rattle.history.proofs.Ring.{pair, run-store}

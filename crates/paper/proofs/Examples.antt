@@ -11,7 +11,8 @@ use Rattle.receive.specs.Post.{postAnswer}
 use Rattle.receive.specs.Take.{lengthOk, endOk, andThen, scan, look, sum, padded, lastWords, packetOf, takeBy, takeOf}
 use Rattle.interrupt.specs.Interrupt.{interruptOf}
 use Rattle.segments.specs.Touch.{countBelow, someBelow, startOf, isCrowded}
-use Rattle.offload.specs.Offload.{piecesOk, addressesOk, headersOk, segmentationOk, requestOk}
+use Rattle.pieces.specs.Pieces.{piecesOk, addressesOk}
+use Rattle.offload.specs.Offload.{headersOk, segmentationOk, requestOk}
 use Rattle.transmit.specs.Queue as tx
 use Rattle.transmit.specs.Send.{sendAnswer}
 use Rattle.paper.specs.Paper.{Paper, post, posts, full, written, took, afterTake}

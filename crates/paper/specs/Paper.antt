@@ -17,9 +17,9 @@ use Rattle.interrupt.specs.declared.Enable.the-variants.{On, Leave}
 use Rattle.interrupt.specs.declared.Request as interrupt
 use Rattle.interrupt.specs.Interrupt.{interruptOf}
 use Rattle.segments.specs.Touch.{touched}
-use Rattle.offload.specs.declared.IpKind.the-variants.{None as NoIp, Ipv4Checksum}
-use Rattle.offload.specs.declared.L4Kind.the-variants.{None as NoL4, Tcp}
-use Rattle.offload.specs.declared.Request.{Request}
+use Rattle.request.specs.declared.IpKind.the-variants.{None as NoIp, Ipv4Checksum}
+use Rattle.request.specs.declared.L4Kind.the-variants.{None as NoL4, Tcp}
+use Rattle.request.specs.declared.Request.{Request}
 use Rattle.transmit.specs.declared.TxQueue.{TxQueue}
 use Rattle.transmit.specs.Queue as tx
 use Rattle.fill.specs.Descriptors.{descriptor}

@@ -3,7 +3,8 @@
 use Prim.Native.Nat.{ℕ}
 use mathlib.Core.Path.{_≡_}
 use mathlib.Core.List.{List}
-use Rattle.rules.proofs.Outcomes.{Fixes, alike, equation}
+use Rattle.rules.specs.Outcomes.{Fixes}
+use Rattle.rules.proofs.Outcomes.{alike, equation}
 use Rattle.ring.specs.declared.Asked.{Asked}
 use Rattle.receive.specs.declared.RxQueue.{RxQueue}
 use Rattle.receive.specs.declared.Fresh.{Fresh}

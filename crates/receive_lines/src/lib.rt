@@ -17,7 +17,6 @@ use script::no_row;
 use script::poke;
 use script::row_of;
 use sum::sum_of;
-use writeback::WriteBack;
 use writeback::family_number;
 
 pub struct Rx {

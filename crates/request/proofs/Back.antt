@@ -7,9 +7,9 @@ use native.Mathlib.Omega.{arith}
 use lib.Dec.{T, lit<}
 use Rattle.field.specs.Field.{fieldOf, free}
 use Rattle.descriptor.specs.declared.Context.{Context}
-use Rattle.descriptor.specs.Words.{dataWord, readData, DataFits, contextWord, readContext, ContextFits}
+use Rattle.descriptor.specs.Words.{dataWord, readData, DataFits, contextWord, readContext, ContextFits, own}
 use Rattle.descriptor.proofs.RoundTrip.{data-back, context-back}
-use Rattle.descriptor.proofs.Bits.{own, pieces-alike}
+use Rattle.descriptor.proofs.Bits.{pieces-alike}
 use Rattle.request.specs.declared.IpKind.{IpKind}
 use Rattle.request.specs.declared.IpKind.the-variants.{None as NoIp, Ipv6, Ipv4, Ipv4Checksum}
 use Rattle.request.specs.declared.L4Kind.{L4Kind}

@@ -1,11 +1,11 @@
 -- The checks of a call in their order: a number is answered exactly if its cause holds and no earlier one does.
 -- Assumes nothing.
 use Prim.Native.Nat.{ℕ, zero, suc, _<_}
-use mathlib.Core.Path.{_≡_, refl, sym}
+use mathlib.Core.Path.{_≡_, refl, sym, _∙_}
 use mathlib.Core.Bool.{Bool, true, false, not, _&&_, cond}
 use mathlib.Core.List.{List, _++_, [], _∷_}
 use native.Mathlib.Omega.{arith}
-use borrow.Author.Tests.{eqb-false}
+use borrow.Author.Tests.{eqb-true, eqb-false}
 use lib.Dec.{T, eqb}
 use Rattle.rules.specs.Rules.{anyFrom, anyOf, Check, _when_, answerOf, each, nth, refusing, Answers}
 
@@ -89,3 +89,11 @@ asked-next (c ∷ cs) ds t = go (c .cause) (eqb (c .answer) 0) refl t (λ u. ask
     go b true e u r = absurd u
     go true false e u r = rw e
     go false false e u r = r u
+
+-- where all of two rows of checks pass, the first row does
+pub first-pass : (cs ds : List Check) → T (refusing cs) → answerOf (cs ++ ds) ≡ 0 → answerOf cs ≡ 0
+first-pass cs ds t e = go (eqb (answerOf cs) 0) refl (sym (asked-next cs ds t) ∙ e)
+  where
+    go : (b : Bool) → eqb (answerOf cs) 0 ≡ b → cond b (answerOf ds) (answerOf cs) ≡ 0 → answerOf cs ≡ 0
+    go true h f = eqb-true _ _ h
+    go false h f = f

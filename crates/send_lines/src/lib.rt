@@ -1,9 +1,9 @@
 // The lines of a script that are for the transmit queue: its record, and how much of its memory is lent. A part of the program `probe`:
 // what it prints is compared.
 use command::Command;
-use offload::IpKind;
-use offload::L4Kind;
-use offload::Request;
+use request::IpKind;
+use request::L4Kind;
+use request::Request;
 use ring::Asked;
 use ring::Queue;
 use script::GIVEN;

@@ -13,7 +13,7 @@ use Rattle.rules.proofs.Checks.{has-cause, is-answered, one-check, passed, pass
 use Rattle.ring.specs.Sizes.{queueOk}
 use Rattle.ring.proofs.Record.{empty-ok}
 use Rattle.segments.specs.Touch.{mostTouched, touched}
-use Rattle.offload.specs.declared.Request.{Request}
+use Rattle.request.specs.declared.Request.{Request}
 use Rattle.offload.proofs.Causes.{plain-touches}
 use Rattle.transmit.specs.declared.TxQueue.{TxQueue}
 use Rattle.transmit.specs.declared.Fresh.{Fresh}

@@ -19,8 +19,8 @@ use Rattle.ring.specs.Memory.{storeRun}
 use Rattle.ring.proofs.Steps.{apart}
 use Rattle.ring.proofs.Record.{advanced-keeps, grown-keeps}
 use Rattle.ring.proofs.Rows.{row-length, row-other}
-use Rattle.offload.specs.declared.Request.{Request}
-use Rattle.offload.proofs.Accepted.{slots-are}
+use Rattle.request.specs.declared.Request.{Request}
+use Rattle.request.proofs.Slots.{slots-are}
 use Rattle.fill.specs.Descriptors.{descriptor}
 use Rattle.fill.proofs.Places.{two-words}
 use Rattle.transmit.specs.declared.TxQueue.{TxQueue}

@@ -1,24 +1,23 @@
 -- What an accepted record, accepted lent slices, an accepted send and an accepted reclaim are, as facts.
 -- Assumes nothing.
 use Prim.Native.Nat.{ℕ, _*_, _^_, _≤_, _<_}
-use mathlib.Core.Path.{_≡_, refl, sym, _∙_}
-use mathlib.Core.Bool.{Bool, true, false, _&&_, _||_, cond, true≢false}
-use mathlib.Core.List.{List, [], _∷_, _++_}
+use mathlib.Core.Path.{_≡_, refl}
+use mathlib.Core.Bool.{Bool, true, false, _&&_, _||_, true≢false}
+use mathlib.Core.List.{List, [], _∷_}
 use native.Mathlib.Omega.{arith}
 use borrow.Author.Tests.{eqb-true, eqb-false, ltb-false, not-false}
-use lib.Dec.{T, ltb, eqb}
+use lib.Dec.{ltb, eqb}
 use lib.ListN.{length}
-use Rattle.rules.specs.Rules.{Check, _when_, answerOf, refusing}
+use Rattle.rules.specs.Rules.{_when_, answerOf}
 use Rattle.rules.proofs.Tests.{both, within-is}
-use Rattle.rules.proofs.Checks.{passed}
+use Rattle.rules.proofs.Checks.{passed, first-pass}
 use Rattle.ring.specs.Sizes.{tailBits}
 use Rattle.ring.specs.Queue.{sharedOk}
 use Rattle.ring.proofs.Record.{shared, tail-fits, asked-below}
-use Rattle.offload.specs.declared.Request.{Request}
+use Rattle.request.specs.declared.Request.{Request}
 use Rattle.offload.specs.Offload.{packetChecks}
 use Rattle.offload.specs.Accepted.{Accepted}
 use Rattle.offload.proofs.Accepted.{accepted}
-use Rattle.offload.proofs.Causes.{asked-next}
 use Rattle.transmit.specs.declared.TxQueue.{TxQueue}
 use Rattle.transmit.specs.Queue.{leastFrame, mostFrame, frameOk, recordOk, lentOk, tailValueOf}
 use Rattle.transmit.specs.Steps.{Kept, Lent}
@@ -60,14 +59,6 @@ module _ (q : TxQueue) (ringLength tokensLength countsLength : ℕ) (e : lentOk 
   lent-same q′ ok s = rw (ok, s) (apart .1)
 
 -- ---- send
-
--- where all of two rows of checks pass, the first row does
-first-pass : (cs ds : List Check) → T (refusing cs) → answerOf (cs ++ ds) ≡ 0 → answerOf cs ≡ 0
-first-pass cs ds t e = go (eqb (answerOf cs) 0) refl (sym (asked-next cs ds t) ∙ e)
-  where
-    go : (b : Bool) → eqb (answerOf cs) 0 ≡ b → cond b (answerOf ds) (answerOf cs) ≡ 0 → answerOf cs ≡ 0
-    go true h f = eqb-true _ _ h
-    go false h f = f
 
 module _ (q : TxQueue) (ringLength tokensLength countsLength : ℕ) (addresses lengths : List ℕ) (request : Request) where
   pub record Sendable : Type 0 where

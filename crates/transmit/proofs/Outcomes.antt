@@ -3,9 +3,10 @@
 use Prim.Native.Nat.{ℕ}
 use mathlib.Core.Path.{_≡_}
 use mathlib.Core.List.{List}
-use Rattle.rules.proofs.Outcomes.{Fixes, alike, equation}
+use Rattle.rules.specs.Outcomes.{Fixes}
+use Rattle.rules.proofs.Outcomes.{alike, equation}
 use Rattle.ring.specs.declared.Asked.{Asked}
-use Rattle.offload.specs.declared.Request.{Request}
+use Rattle.request.specs.declared.Request.{Request}
 use Rattle.transmit.specs.declared.TxQueue.{TxQueue}
 use Rattle.transmit.specs.declared.Fresh.{Fresh}
 use Rattle.transmit.specs.declared.Reclaimed.{Reclaimed}

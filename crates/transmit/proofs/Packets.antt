@@ -14,8 +14,8 @@ use Rattle.rules.specs.Rules.{nth}
 use Rattle.rules.proofs.Checks.{passes}
 use Rattle.ring.specs.Queue.{slotOf, tailOf, grown}
 use Rattle.ring.proofs.Record.{tail-below}
-use Rattle.offload.specs.declared.Request.{Request}
-use Rattle.offload.proofs.Accepted.{slots-are}
+use Rattle.request.specs.declared.Request.{Request}
+use Rattle.request.proofs.Slots.{slots-are}
 use Rattle.transmit.specs.declared.TxQueue.{TxQueue}
 use Rattle.transmit.specs.Queue.{lentOk, movedTo}
 use Rattle.transmit.specs.Send.{slotsTaken, answerTo, sendOf, tokensAfter, countsAfter}

@@ -16,12 +16,13 @@ use Rattle.ring.specs.Memory.{numbersAt, storeRun}
 use Rattle.ring.proofs.Rows.{row-reads}
 use Rattle.ring.proofs.Record.{tail-below}
 use Rattle.descriptor.specs.declared.Data.{Data}
-use Rattle.descriptor.specs.Words.{typeLine, readAt, dataWord, readData, contextWord, readContext}
+use Rattle.field.specs.Field.{readAt}
+use Rattle.descriptor.specs.Words.{typeLine, dataWord, readData, contextWord, readContext}
 use Rattle.descriptor.proofs.Bits.{data-type, context-type}
-use Rattle.offload.specs.declared.Request.{Request}
-use Rattle.offload.specs.Request.{slotsOf, dataOf, contextOf, requestOf}
-use Rattle.offload.proofs.Accepted.{slots-are}
-use Rattle.offload.proofs.Back.{piece-back, segmentation-back, request-back}
+use Rattle.request.specs.declared.Request.{Request}
+use Rattle.request.specs.Request.{slotsOf, dataOf, contextOf, requestOf}
+use Rattle.request.proofs.Slots.{slots-are}
+use Rattle.request.proofs.Back.{piece-back, segmentation-back, request-back}
 use Rattle.fill.specs.Descriptors.{isLast, pieceNumbers, contextNumbers, descriptor}
 use Rattle.fill.proofs.Places.{two-words, context-first, piece-at, slots-more}
 use Rattle.transmit.specs.declared.TxQueue.{TxQueue}

@@ -9,7 +9,7 @@ use native.Mathlib.Omega.{arith}
 use borrow.Author.Tests.{eq-eqb, eqb-true}
 use lib.Dec.{eqb}
 use lib.ListN.{length}
-use Rattle.offload.specs.declared.Request.{Request}
+use Rattle.request.specs.declared.Request.{Request}
 use Rattle.transmit.specs.declared.TxQueue.{TxQueue}
 use Rattle.transmit.specs.declared.Reclaimed.{Reclaimed}
 use Rattle.transmit.specs.Send.{freeSlots, slotsTaken, sendAnswer}

@@ -7,9 +7,10 @@ use mathlib.Core.List.{List}
 use lib.Dec.{eqb}
 use lib.ListN.{length, getD}
 use Rattle.ring.specs.Slots.{slotAt}
-use Rattle.descriptor.specs.Words.{typeLine, readAt, readData, readContext}
-use Rattle.offload.specs.declared.Request.{Request}
-use Rattle.offload.specs.Request.{slotsOf, contextOf, requestOf}
+use Rattle.field.specs.Field.{readAt}
+use Rattle.descriptor.specs.Words.{typeLine, readData, readContext}
+use Rattle.request.specs.declared.Request.{Request}
+use Rattle.request.specs.Request.{slotsOf, contextOf, requestOf}
 use Rattle.fill.specs.Descriptors.{isLast}
 
 -- word 0 and word 1 of slot s

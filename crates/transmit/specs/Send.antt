@@ -9,8 +9,8 @@ use lib.ListN.{length, getD, set}
 use Rattle.rules.specs.Rules.{Check, _when_, answerOf}
 use Rattle.ring.specs.Memory.{numbersAt, storeRun}
 use Rattle.ring.specs.Queue.{slotOf, tailOf, grown}
-use Rattle.offload.specs.declared.Request.{Request}
-use Rattle.offload.specs.Request.{slotsOf}
+use Rattle.request.specs.declared.Request.{Request}
+use Rattle.request.specs.Request.{slotsOf}
 use Rattle.offload.specs.Offload.{packetChecks}
 use Rattle.fill.specs.Descriptors.{descriptor}
 use Rattle.transmit.specs.declared.TxQueue.{TxQueue}

@@ -1,14 +1,14 @@
 // Send: the answer first, then the descriptors, the token and the slot count.
 ghost use mathlib.Core.Path.{_≡_};
 ghost use Prim.Native.Nat.{_≤_};
-ghost use Rattle.offload.specs.Request.{slotsOf};
-ghost use Rattle.offload.specs.Offload.{mostPieces};
+ghost use Rattle.request.specs.Request.{slotsOf};
+ghost use Rattle.pieces.specs.Pieces.{mostPieces};
 ghost use Rattle.transmit.specs.Send.{sendAnswer, SentAs};
 use crate::Sent;
 use crate::TxQueue;
 use fill::put_descriptors;
-use offload::Request;
 use offload::judge;
+use request::Request;
 
 // The slots that so many pieces take.
 fn slots_of(request: Request, pieces: usize) -> usize

@@ -3,7 +3,6 @@ use borrow.Author.Tests.{lt-ltb, le-ltb}
 use lib.ListN.{length}
 use borrow.Author.Needs.{needs}
 use Rattle.feed.specs.Feeding.{nextOf}
-use Rattle.words.proofs.line_end.Reads as line-end-reads
 use Rattle.feed.proofs.next_line.Statement.{statement}
 use Rattle.feed.proofs.next_line.Tie as tie
 

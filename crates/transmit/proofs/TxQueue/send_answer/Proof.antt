@@ -6,7 +6,7 @@ use borrow.Author.Needs.{needs}
 use borrow.Author.Tests.{ne-eqb, lt-ltb, le-ltb}
 use Rattle.offload.specs.Offload.{packetChecks}
 use Rattle.offload.proofs.Accepted.{accepted}
-use Rattle.offload.proofs.Causes.{asked-next}
+use Rattle.rules.proofs.Checks.{asked-next}
 use Rattle.transmit.specs.Send.{sendAnswer}
 use Rattle.transmit.proofs.Laws.{lent}
 use Rattle.transmit.proofs.TxQueue.send_answer.Statement.{statement}
