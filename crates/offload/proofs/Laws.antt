@@ -17,10 +17,7 @@ use Rattle.request.specs.declared.L4Kind.the-variants.{None as NoL4, Tcp, Sctp,
 use Rattle.request.specs.declared.Request.{Request}
 use Rattle.request.specs.Request.{isNoIp, isNoL4, isTcp, hasChecksum, headerOf}
 use Rattle.request.specs.Sound.{mostTlen, mostTag, Units, Sound}
-use Rattle.pieces.specs.Pieces.{piecesOk}
-use Rattle.pieces.proofs.Laws.{pieces-are, pieces-whole}
 use Rattle.offload.specs.Offload.{mostHeader, leastMss, ipLengthOk, l4LengthOk, headersOk, tagOk, segmentedOk, segmentationOk, requestOk}
-use Rattle.offload.specs.Steps.{Segmentable}
 
 fours : (low high n : ℕ) → inSteps low high 4 n ≡ true → (n ≤ high) × (n % 4 ≡ 0)
 fours low high n e = let s = steps-is low high 4 n e in (s .most, s .steps)
@@ -68,11 +65,11 @@ module _ (q : Request) where
       record { mac-most = m .most; mac-twos = m .steps; ip-most = i .0; ip-fours = i .1; l4-most = l .0; l4-fours = l .1 })
 
 -- what the rules of a segmented send say
-record Segments (lengths : List ℕ) (maximum header : ℕ) (q : Request) : Type 0 where
-  within : header ≤ startOf lengths 3
-  tlen-most : q .tlen ≤ mostTlen
-  mss-least : leastMss ≤ q .mss
-  mss-most : q .mss + header ≤ maximum
+pub record Segments (lengths : List ℕ) (maximum header : ℕ) (q : Request) : Type 0 where
+  pub within : header ≤ startOf lengths 3
+  pub tlen-most : q .tlen ≤ mostTlen
+  pub mss-least : leastMss ≤ q .mss
+  pub mss-most : q .mss + header ≤ maximum
 
 module _ (lengths : List ℕ) (maximum : ℕ) (q : Request) where
   segments-are : (header : ℕ) → segmentedOk lengths maximum header q ≡ true → Segments lengths maximum header q
@@ -94,7 +91,7 @@ module _ (lengths : List ℕ) (maximum : ℕ) (q : Request) where
     tag-is : q .tag ≤ mostTag
     tag-is = leb-true _ _ (both (leb (q .tag) mostTag) _ (both (leb (headerOf q) (total lengths)) (tagOk q) (both (leb (headerOf q) (total lengths) && tagOk q) _ (parts .1) .0) .1) .0)
 
-    segmented-is : q .segmented ≡ true → Segments lengths maximum (headerOf q) q
+    pub segmented-is : q .segmented ≡ true → Segments lengths maximum (headerOf q) q
     unfolding segmentationOk
     segmented-is s = by-test (q .segmented) _ _ segmentation (λ _ h. segments-are (headerOf q) h) (λ f _. absurd (true≢false (sym s ∙ f)))
 
@@ -113,13 +110,3 @@ module _ (lengths : List ℕ) (maximum : ℕ) (q : Request) where
         go false s =
             let g = plain-is s in
             record { units = headers-are q (parts .0); tag-most = tag-is; mss-most = omega arith; tlen-most = omega arith; plain = plain-is }
-
-    pub segmentable : (addresses : List ℕ) → piecesOk addresses lengths maximum q ≡ true → Segmentable lengths q
-    segmentable addresses p =
-        let c = pieces-are addresses lengths maximum q p in
-        record {
-          header-fits = omega (arith, headers-are q (parts .0));
-          checked = λ s.
-              let g = segmented-is s in
-              record { whole = pieces-whole addresses lengths maximum q p s; small = omega arith; each = λ i l. c .each i l .0; within = g .within; spaced = omega arith };
-        }

@@ -1,3 +1,2 @@
 pub mod Offload
-pub mod Accepted
 pub mod Steps

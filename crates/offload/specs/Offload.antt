@@ -1,12 +1,11 @@
--- What the request of a send must keep, and the numbers that a packet to be sent is refused with where it does not keep its rules (01, "Sending"; 6, 2, 7 and 8 of
--- "Numbers that come back").
+-- What the request of a send must keep (01, "Sending"; 7 of "Numbers that come back").
 -- Assumes nothing.
 use Prim.Native.Nat.{ℕ, _+_}
 use mathlib.Core.Bool.{Bool, not, _&&_, _||_, cond}
-use mathlib.Core.List.{List, [], _∷_}
+use mathlib.Core.List.{List}
 use lib.Dec.{leb, eqb}
-use Rattle.rules.specs.Rules.{within, inSteps, Check, _when_}
-use Rattle.segments.specs.Touch.{total, headerWithin, isCrowded}
+use Rattle.rules.specs.Rules.{within, inSteps}
+use Rattle.segments.specs.Touch.{total, headerWithin}
 use Rattle.request.specs.declared.IpKind.{IpKind}
 use Rattle.request.specs.declared.IpKind.the-variants.{None as NoIp, Ipv6, Ipv4, Ipv4Checksum}
 use Rattle.request.specs.declared.L4Kind.{L4Kind}
@@ -14,7 +13,6 @@ use Rattle.request.specs.declared.L4Kind.the-variants.{None as NoL4, Tcp, Sctp,
 use Rattle.request.specs.declared.Request.{Request}
 use Rattle.request.specs.Request.{isNoIp, isNoL4, isTcp, hasChecksum, headerOf}
 use Rattle.request.specs.Sound.{mostTlen, mostTag}
-use Rattle.pieces.specs.Pieces.{piecesOk, addressesOk}
 
 -- the limits
 abbrev pub mostHeader : ℕ
@@ -22,8 +20,6 @@ mostHeader = 512
 
 abbrev pub leastMss : ℕ
 leastMss = 88
-
--- ---- 7
 
 -- IPv4 20 to 60, IPv6 40 to 508, multiples of 4
 abbrev pub ipLengthOk : IpKind → ℕ → Bool
@@ -73,18 +69,3 @@ segmentationOk lengths maximum header q =
 unfoldable pub requestOk : List ℕ → ℕ → Request → Bool
 requestOk lengths maximum q =
     headersOk q && (leb (headerOf q) (total lengths) && tagOk q && segmentationOk lengths maximum (headerOf q) q)
-
--- ---- 8
-
--- some segment touches more than 8 pieces; a plain send has no segments
-abbrev pub isOver : List ℕ → Request → Bool
-isOver lengths q = q .segmented && isCrowded lengths (headerOf q) (q .mss) (q .tlen)
-
--- the checks of a packet to be sent on its own, in their order: its pieces, their addresses, its request, its segments
-abbrev pub packetChecks : List ℕ → List ℕ → ℕ → Request → List Check
-packetChecks addresses lengths maximum q =
-    6 when not (piecesOk addresses lengths maximum q)
-    ∷ 2 when not (addressesOk addresses lengths)
-    ∷ 7 when not (requestOk lengths maximum q)
-    ∷ 8 when isOver lengths q
-    ∷ []

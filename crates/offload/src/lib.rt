@@ -1,5 +1,4 @@
-// The answers of a send that ask nothing of the queue but its maximum frame: 6 and 2 by its pieces, 7 and 8 by its request.
-use pieces::look;
+// Answer 7 of a send: whether its request keeps its rules.
 use request::IPV4_CHECKSUM;
 use request::IPV6;
 use request::IpKind;
@@ -10,14 +9,13 @@ use request::Request;
 use request::TCP;
 use request::iipt;
 use request::l4t;
-use segments::crowded;
 use segments::header_within;
 ghost use mathlib.Core.Path.{_≡_};
 ghost use Prim.Native.Nat.{_<_, _^_};
-ghost use Rattle.rules.specs.Rules.{answerOf, inSteps};
+ghost use Rattle.rules.specs.Rules.{inSteps};
 ghost use Rattle.segments.specs.Touch.{total};
-ghost use Rattle.offload.specs.Offload.{ipLengthOk, l4LengthOk, headersOk, mssOk, segmentationOk, requestOk, isOver, packetChecks};
-ghost use Rattle.offload.specs.Steps.{Totalled, Segmentable};
+ghost use Rattle.offload.specs.Offload.{ipLengthOk, l4LengthOk, headersOk, mssOk, segmentationOk, requestOk};
+ghost use Rattle.offload.specs.Steps.{Totalled};
 
 const MOST_HEADER: u64 = 512;
 
@@ -26,8 +24,6 @@ const MOST_TLEN: u64 = 262143;
 const LEAST_MSS: u64 = 88;
 
 const MOST_TAG: u64 = 65535;
-
-// ---- 7: offload request wrong
 
 fn in_fours(low: u64, high: u64, n: u64) -> bool
     ensures { λ r. ⌜ r ≡ inSteps low high 4 n ⌝ }
@@ -106,7 +102,8 @@ fn segmentation_ok(lengths: &[u64], maximum: u64, header: u64, request: Request)
     }
 }
 
-fn request_ok(lengths: &[u64], total: u64, maximum: u64, request: Request) -> bool
+// The bytes of all pieces have been added up before: `total`.
+pub fn request_ok(lengths: &[u64], total: u64, maximum: u64, request: Request) -> bool
     requires { ⌜ Totalled (now lengths) total ⌝ }
     ensures { λ r. ⌜ r ≡ requestOk (now (lengths .entry)) maximum request ⌝ }
 {
@@ -116,41 +113,5 @@ fn request_ok(lengths: &[u64], total: u64, maximum: u64, request: Request) -> bo
         (header <= total) & tag & segmentation_ok(lengths, maximum, header, request)
     } else {
         false
-    }
-}
-
-// ---- 8: some segment touches more than 8 pieces
-
-fn crowds(lengths: &[u64], request: Request) -> bool
-    requires { ⌜ Segmentable (now lengths) request ⌝ }
-    ensures { λ r. ⌜ r ≡ isOver (now (lengths .entry)) request ⌝ }
-{
-    let header = request.mac_length + request.ip_length + request.l4_length;
-    if request.segmented {
-        crowded(lengths, header, request.mss, request.tlen)
-    } else {
-        false
-    }
-}
-
-// ---- 6, 2, 7 and 8 in that order
-
-// Answers 6, 2, 7 or 8, the first whose cause holds, or 0. Any lists and numbers go in.
-pub fn judge(addresses: &[u64], lengths: &[u64], maximum_frame: u64, request: Request) -> u8
-    ensures { λ r. ⌜ r ≡ answerOf (packetChecks (now (addresses .entry)) (now (lengths .entry)) «maximum_frame» request) ⌝ }
-{
-    let p = look(addresses, lengths, maximum_frame, request);
-    if p.ok {
-        if p.addresses_ok {
-            if request_ok(lengths, p.total, maximum_frame, request) {
-                if crowds(lengths, request) { 8 } else { 0 }
-            } else {
-                7
-            }
-        } else {
-            2
-        }
-    } else {
-        6
     }
 }

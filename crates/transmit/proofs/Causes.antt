@@ -14,7 +14,7 @@ use Rattle.ring.specs.Sizes.{queueOk}
 use Rattle.ring.proofs.Record.{empty-ok}
 use Rattle.segments.specs.Touch.{mostTouched, touched}
 use Rattle.request.specs.declared.Request.{Request}
-use Rattle.offload.proofs.Causes.{plain-touches}
+use Rattle.packet.proofs.Causes.{plain-touches}
 use Rattle.transmit.specs.declared.TxQueue.{TxQueue}
 use Rattle.transmit.specs.declared.Fresh.{Fresh}
 use Rattle.transmit.specs.Queue.{frameOk, recordOk, emptyQueue, freshOf}

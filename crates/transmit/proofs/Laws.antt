@@ -15,9 +15,9 @@ use Rattle.ring.specs.Sizes.{tailBits}
 use Rattle.ring.specs.Queue.{sharedOk}
 use Rattle.ring.proofs.Record.{shared, tail-fits, asked-below}
 use Rattle.request.specs.declared.Request.{Request}
-use Rattle.offload.specs.Offload.{packetChecks}
-use Rattle.offload.specs.Accepted.{Accepted}
-use Rattle.offload.proofs.Accepted.{accepted}
+use Rattle.packet.specs.Packet.{packetChecks}
+use Rattle.packet.specs.Accepted.{Accepted}
+use Rattle.packet.proofs.Accepted.{accepted}
 use Rattle.transmit.specs.declared.TxQueue.{TxQueue}
 use Rattle.transmit.specs.Queue.{leastFrame, mostFrame, frameOk, recordOk, lentOk, tailValueOf}
 use Rattle.transmit.specs.Steps.{Kept, Lent}

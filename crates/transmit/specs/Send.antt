@@ -11,7 +11,7 @@ use Rattle.ring.specs.Memory.{numbersAt, storeRun}
 use Rattle.ring.specs.Queue.{slotOf, tailOf, grown}
 use Rattle.request.specs.declared.Request.{Request}
 use Rattle.request.specs.Request.{slotsOf}
-use Rattle.offload.specs.Offload.{packetChecks}
+use Rattle.packet.specs.Packet.{packetChecks}
 use Rattle.fill.specs.Descriptors.{descriptor}
 use Rattle.transmit.specs.declared.TxQueue.{TxQueue}
 use Rattle.transmit.specs.declared.Sent.{Sent}

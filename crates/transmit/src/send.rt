@@ -7,7 +7,7 @@ ghost use Rattle.transmit.specs.Send.{sendAnswer, SentAs};
 use crate::Sent;
 use crate::TxQueue;
 use fill::put_descriptors;
-use offload::judge;
+use packet::judge;
 use request::Request;
 
 // The slots that so many pieces take.

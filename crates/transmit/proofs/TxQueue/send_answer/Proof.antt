@@ -4,8 +4,8 @@ use mathlib.Core.Path.{sym, _∙_}
 use native.Mathlib.Omega.{arith}
 use borrow.Author.Needs.{needs}
 use borrow.Author.Tests.{ne-eqb, lt-ltb, le-ltb}
-use Rattle.offload.specs.Offload.{packetChecks}
-use Rattle.offload.proofs.Accepted.{accepted}
+use Rattle.packet.specs.Packet.{packetChecks}
+use Rattle.packet.proofs.Accepted.{accepted}
 use Rattle.rules.proofs.Checks.{asked-next}
 use Rattle.transmit.specs.Send.{sendAnswer}
 use Rattle.transmit.proofs.Laws.{lent}

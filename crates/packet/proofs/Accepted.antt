@@ -10,9 +10,10 @@ use Rattle.rules.proofs.Checks.{passed}
 use Rattle.request.specs.declared.Request.{Request}
 use Rattle.pieces.specs.Pieces.{piecesOk, addressesOk}
 use Rattle.pieces.proofs.Laws.{pieces-are, addresses-each}
-use Rattle.offload.specs.Offload.{requestOk, packetChecks}
-use Rattle.offload.specs.Accepted.{Accepted}
+use Rattle.offload.specs.Offload.{requestOk}
 use Rattle.offload.proofs.Laws.{request-is}
+use Rattle.packet.specs.Packet.{packetChecks}
+use Rattle.packet.specs.Accepted.{Accepted}
 
 module _ (addresses lengths : List ℕ) (maximum : ℕ) (q : Request) where
   -- the tests of 6, 2 and 7 say yes

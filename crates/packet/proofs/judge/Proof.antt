@@ -1,4 +1,4 @@
--- `offload::judge` meets its contract: each answer by the tests on the way.
+-- `packet::judge` meets its contract: each answer by the tests on the way.
 -- Assumes nothing.
 use mathlib.Core.Path.{_≡_, sym, _∙_}
 use mathlib.Core.Bool.{true}
@@ -6,10 +6,10 @@ use native.Mathlib.Omega.{arith}
 use borrow.Author.Needs.{needs}
 use Rattle.pieces.specs.Pieces.{piecesOk, addressesOk}
 use Rattle.pieces.proofs.Laws.{found-is, pieces-are}
 use Rattle.offload.specs.Offload.{requestOk}
-use Rattle.offload.proofs.Laws.{segmentable}
-use Rattle.offload.proofs.judge.Statement.{statement}
-use Rattle.offload.proofs.judge.Tie as tie
+use Rattle.packet.proofs.Laws.{segmentable}
+use Rattle.packet.proofs.judge.Statement.{statement}
+use Rattle.packet.proofs.judge.Tie as tie
 
 abbrev entry : tie.Then1 → tie.Start
 entry c = c .before .before .before .before
@@ -34,7 +34,7 @@ request-ok-requires c κs =
     record { is = found-is _ _ _ _ (c .before .before .look .ensures) .total-is (c .before .if1 .taken); small = omega arith }
 
 crowds-requires : tie.Need-crowds-requires
-crowds-requires c κs = segmentable _ _ _ (request c) _ (right (c .before .before .before))
+crowds-requires c κs = segmentable _ _ _ _ (right (c .before .before .before)) (request c)
 
 returns : tie.Need-returns
 returns c =

@@ -1,8 +1,8 @@
--- `offload::crowds` meets its contract: a plain send has no segments.
+-- `packet::crowds` meets its contract: a plain send has no segments.
 -- Assumes nothing.
 use borrow.Author.Needs.{needs}
-use Rattle.offload.proofs.crowds.Statement.{statement}
-use Rattle.offload.proofs.crowds.Tie as tie
+use Rattle.packet.proofs.crowds.Statement.{statement}
+use Rattle.packet.proofs.crowds.Tie as tie
 
 add-header : tie.Need-add-header
 add-header c = search needs

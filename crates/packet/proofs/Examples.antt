@@ -10,7 +10,8 @@ use Rattle.request.specs.declared.IpKind.the-variants.{None as NoIp}
 use Rattle.request.specs.declared.L4Kind.the-variants.{None as NoL4}
 use Rattle.request.specs.declared.Request.{Request}
 use Rattle.pieces.specs.Pieces.{piecesOk, addressesOk}
-use Rattle.offload.specs.Offload.{headersOk, segmentationOk, requestOk, packetChecks}
+use Rattle.offload.specs.Offload.{headersOk, segmentationOk, requestOk}
+use Rattle.packet.specs.Packet.{packetChecks}
 
 abbrev plain : Request
 plain =

@@ -12,7 +12,8 @@ use Rattle.segments.proofs.Meaning.{touched-few}
 use Rattle.request.specs.declared.Request.{Request}
 use Rattle.pieces.specs.Pieces.{piecesOk, addressesOk}
 use Rattle.pieces.proofs.Laws.{plain-few}
-use Rattle.offload.specs.Offload.{requestOk, packetChecks}
+use Rattle.offload.specs.Offload.{requestOk}
+use Rattle.packet.specs.Packet.{packetChecks}
 
 -- 6, 2 and 7 are not 8
 not-eight : (a b c s x : Bool) → s ≡ false → _≡_ {A = ℕ} (cond (not a) 6 (cond (not b) 2 (cond (not c) 7 (cond (s && x) 8 0)))) 8 → ⊥

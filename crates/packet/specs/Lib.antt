@@ -1,0 +1,3 @@
+pub mod Packet
+pub mod Accepted
+pub mod Steps
