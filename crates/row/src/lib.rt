@@ -23,7 +23,7 @@ fn copy(out: &mut [u8], at: usize, word: &[u8])
 
 // Puts the bytes of a word at a place, and answers the place after them; where they do not fit,
 // nothing is put, and the answer is the place itself.
-pub fn put_word(out: &mut [u8], at: usize, word: &[u8]) -> usize
+fn put_word(out: &mut [u8], at: usize, word: &[u8]) -> usize
     ensures { λ r. ⌜ Put (now (out .entry)) at (now (word .entry)) r (now (out .exit)) ⌝ }
 {
     if decimal::has_room(out.len(), at, word.len()) {

@@ -17,7 +17,7 @@ const LINE_END: u8 = b'\n';
 const COMMENT: u8 = b'#';
 
 // Where the next mark stands, from a place on, or the end of the text.
-pub fn end_of(text: &[u8], from: usize, mark: u8) -> usize
+fn end_of(text: &[u8], from: usize, mark: u8) -> usize
     ensures { λ r. ⌜ r ≡ endOf mark (now (text .entry)) from ⌝ }
 {
     let mut at = from;
