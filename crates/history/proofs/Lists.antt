@@ -8,8 +8,8 @@ use mathlib.Core.List.{List, [], _∷_, _++_, map, append-assoc}
 use lib.Dec.{T}
 use lib.ListN.{length}
 use Rattle.writeback.specs.WriteBack.{Words, dd, eop}
-use Rattle.receive.specs.Slots.{Slot}
-use Rattle.receive.specs.Take.{lengthOk, endOk, writable, Look, refuse, whole, andThen, scan}
+use Rattle.scan.specs.Slots.{Slot}
+use Rattle.scan.specs.Scan.{lengthOk, endOk, writable, Look, refuse, whole, andThen, scan}
 use Rattle.history.specs.World.{partAfter}
 use Rattle.history.specs.History.{filled, unwritten, joined, packets}
 

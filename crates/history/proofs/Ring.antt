@@ -11,7 +11,7 @@ use Rattle.ring.specs.Slots.{slotAt, run}
 use Rattle.ring.proofs.Stores.{read-same, read-other}
 use Rattle.ring.proofs.Runs.{getD-run, run-inside}
 use Rattle.writeback.specs.WriteBack.{Words}
-use Rattle.receive.specs.Slots.{Slot, wordsOf, slotIn, storeWords}
+use Rattle.scan.specs.Slots.{Slot, wordsOf, slotIn, storeWords}
 
 -- the two words of a slot as they are stored
 abbrev pub pair : Words → List ℕ

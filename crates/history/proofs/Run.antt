@@ -10,8 +10,9 @@ use lib.Dec.{eqb}
 use lib.ListN.{length, drop}
 use Rattle.rules.specs.Address.{addressWrong}
 use Rattle.writeback.specs.WriteBack.{Words}
-use Rattle.receive.specs.Slots.{Slot}
-use Rattle.receive.specs.Take.{refuse, whole, packetOf}
+use Rattle.scan.specs.Slots.{Slot}
+use Rattle.scan.specs.Scan.{refuse, whole}
+use Rattle.scan.specs.Packet.{packetOf}
 use Rattle.history.specs.World.{World, Event, post, poll, write, Reply, posted, postAt, after, reply, Allowed, end, replies, AllAllowed}
 use Rattle.history.specs.History.{ifDone, acceptedAt, accepted, writeAt, writes, filled, packets, packetsIn}
 use Rattle.history.specs.Demand.{oneOf, usual, allUsual}

@@ -7,9 +7,11 @@ use lib.ListN.{length, length-append, length-map}
 use lib.Seq.{take-at, take-append-seam}
 use Rattle.writeback.specs.WriteBack.{Words}
 use Rattle.receive.specs.declared.RxQueue.{RxQueue}
-use Rattle.receive.specs.declared.Packet.{Packet}
-use Rattle.receive.specs.Slots.{Slot}
-use Rattle.receive.specs.Take.{Look, refuse, whole, look, packetOf, takeOf}
+use Rattle.scan.specs.declared.Packet.{Packet}
+use Rattle.scan.specs.Slots.{Slot}
+use Rattle.scan.specs.Scan.{Look, refuse, whole}
+use Rattle.scan.specs.Packet.{packetOf}
+use Rattle.receive.specs.Take.{look, takeOf}
 use Rattle.history.specs.World.{World, Event, post, poll, write, slotsIn, postAt, takeAt, after, reply, Allowed, end, replies, AllAllowed, Start}
 use Rattle.history.specs.History.{acceptedAt, accepted, writeAt, writes, packets, written, handedUp, waiting}
 use Rattle.history.specs.Demand.{nextOf}

@@ -19,9 +19,11 @@ use Rattle.ring.proofs.Runs.{length-run, run-mod, run-drop}
 use Rattle.writeback.specs.WriteBack.{Words}
 use Rattle.receive.specs.declared.RxQueue.{RxQueue}
 use Rattle.receive.specs.Queue.{recordOk, lentOk, emptyQueue}
-use Rattle.receive.specs.Slots.{Slot, slotIn, storeWords, postedSlots}
+use Rattle.scan.specs.Slots.{Slot, slotIn, storeWords, postedSlots}
 use Rattle.receive.specs.Post.{postAnswer, blank, oneMore}
-use Rattle.receive.specs.Take.{writable, Look, refuse, whole, look, packetOf, advanced, takeBy, takeOf}
+use Rattle.scan.specs.Scan.{writable, Look, refuse, whole}
+use Rattle.scan.specs.Packet.{packetOf, seenBy}
+use Rattle.receive.specs.Take.{look, advanced, takeBy, takeOf}
 use Rattle.receive.proofs.Laws.{fresh-lines, fresh-queue, kept, done-room}
 use Rattle.receive.proofs.Posts.{post-adds}
 use Rattle.receive.proofs.Keeps.{one-more-ok, advanced-ok}
@@ -63,20 +65,20 @@ after-refused w a ne = rw (ne-eqb _ _ ne)
 
 module _ (w : World) (n : ℕ) (e : seen w ≡ refuse n) where
   pub after-none : after w poll ≡ w
-  unfolding after takeAt takeOf seen takeBy
+  unfolding after takeAt takeOf seen takeBy seenBy
   after-none = rw e
 
   pub take-none : takeAt w ≡ record { answer = n; queue = w .queue; packet = packetOf [] }
-  unfolding takeAt takeOf seen takeBy
+  unfolding takeAt takeOf seen takeBy seenBy
   take-none = rw e
 
 module _ (w : World) (p : List Slot) (e : seen w ≡ whole p) where
   pub after-some : after w poll ≡ moved w (length p)
-  unfolding after takeAt takeOf seen takeBy moved
+  unfolding after takeAt takeOf seen takeBy seenBy moved
   after-some = rw e
 
   pub take-some : takeAt w ≡ record { answer = 0; queue = advanced (w .queue) (length p); packet = packetOf p }
-  unfolding takeAt takeOf seen takeBy
+  unfolding takeAt takeOf seen takeBy seenBy
   take-some = rw e
 
 -- ---- an accepted record, and the slices' lengths
@@ -87,7 +89,7 @@ pub record Fit (w : World) : Type 0 where
   pub list : length (w .list) ≡ w .queue .shared .size
 
 pub fit-shared : (w : World) → Fit w → Shared (w .queue .shared)
-fit-shared w f = kept (w .queue) (f .ok) .shared-is
+fit-shared w f = kept (w .queue) (f .ok)
 
 pub fit-lent : (w : World) → Fit w → lentOk (w .queue) (length (w .ring)) (length (w .list)) ≡ true
 unfolding lentOk

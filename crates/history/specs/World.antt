@@ -13,9 +13,10 @@ use Rattle.receive.specs.declared.RxQueue.{RxQueue}
 use Rattle.receive.specs.declared.Posted.{Posted}
 use Rattle.receive.specs.declared.Taken.{Taken}
 use Rattle.receive.specs.Queue.{freshOf}
-use Rattle.receive.specs.Slots.{Slot, storeWords, postedSlots}
+use Rattle.scan.specs.Slots.{Slot, storeWords, postedSlots}
 use Rattle.receive.specs.Post.{postOf, ringAfter, listAfter}
-use Rattle.receive.specs.Take.{writable, takeOf}
+use Rattle.scan.specs.Scan.{writable}
+use Rattle.receive.specs.Take.{takeOf}
 
 -- The record, the ring and the companion list, which the calls carry on and nobody else writes; and of the device its place, which
 -- is the slot that it writes next, and how many slots it has written of the packet that it has not ended.
@@ -39,7 +40,7 @@ pub data Reply : Type 0 where
 
 -- the slots that are the device's, the oldest first
 unfoldable pub slotsIn : World → List Slot
-slotsIn w = postedSlots (w .queue) (w .ring) (w .list)
+slotsIn w = postedSlots (w .queue .shared) (w .ring) (w .list)
 
 -- ---- one event
 

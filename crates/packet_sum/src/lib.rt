@@ -2,8 +2,8 @@
 use measure::checksum::byte;
 use measure::checksum::mix;
 use measure::checksum::number;
-use receive::Packet;
 use receive::Taken;
+use scan::Packet;
 use writeback::WriteBack;
 use writeback::family_number;
 

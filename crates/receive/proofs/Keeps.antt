@@ -10,10 +10,12 @@ use lib.ListN.{length}
 use Rattle.rules.proofs.Tests.{both}
 use Rattle.ring.specs.Queue.{sharedOk}
 use Rattle.ring.proofs.Record.{advanced-keeps, grown-keeps}
+use Rattle.scan.specs.Scan.{Look, refuse, whole}
+use Rattle.scan.specs.Packet.{seenBy}
 use Rattle.receive.specs.declared.RxQueue.{RxQueue}
 use Rattle.receive.specs.Queue.{bufferOk, recordOk, freshOf}
 use Rattle.receive.specs.Post.{oneMore, answerTo, postOf}
-use Rattle.receive.specs.Take.{Look, refuse, whole, look, advanced, takeBy, takeOf}
+use Rattle.receive.specs.Take.{look, advanced, takeBy, takeOf}
 use Rattle.receive.proofs.Laws.{fresh-lines, fresh-queue, done-room}
 
 pub fresh-keeps : (queue size buffer : ℕ) → freshOf queue size buffer .answer ≡ 0 → recordOk (freshOf queue size buffer .queue) ≡ true
@@ -40,7 +42,7 @@ module _ (q : RxQueue) (ok : recordOk q ≡ true) where
       go false e = ok
 
   pub take-keeps : (ring list : List ℕ) → recordOk (takeOf q ring list .queue) ≡ true
-  unfolding takeOf takeBy
+  unfolding takeOf takeBy seenBy
   take-keeps ring list = go (look q ring list)
     where
       go : (l : Look) → recordOk (takeBy l q .queue) ≡ true

@@ -8,15 +8,15 @@ use native.Mathlib.Omega.{arith}
 use borrow.Author.Tests.{eqb-true, eqb-false, not-false}
 use lib.Dec.{eqb}
 use Rattle.rules.specs.Rules.{_when_}
-use Rattle.rules.proofs.Tests.{both, steps-is}
+use Rattle.rules.proofs.Tests.{both}
 use Rattle.rules.proofs.Checks.{passed}
 use Rattle.ring.specs.Sizes.{tailBits}
-use Rattle.ring.specs.Queue.{sharedOk}
+use Rattle.ring.specs.Queue.{Shared, sharedOk}
 use Rattle.ring.proofs.Record.{shared, tail-fits, asked-below}
+use Rattle.scan.specs.Steps.{Lent}
 use Rattle.receive.specs.declared.RxQueue.{RxQueue}
-use Rattle.receive.specs.Queue.{leastBuffer, mostBuffer, bufferStep, bufferOk, recordOk, lentOk, emptyQueue, freshOf, tailValueOf}
+use Rattle.receive.specs.Queue.{bufferOk, recordOk, lentOk, emptyQueue, freshOf, tailValueOf}
 use Rattle.receive.specs.Post.{postChecks, postAnswer}
-use Rattle.receive.specs.Steps.{Kept, Lent}
 use Rattle.receive.proofs.Causes.{fresh-answer}
 
 -- a fresh queue that is given is accepted and empty
@@ -27,18 +27,15 @@ pub fresh-queue : (queue size buffer : ℕ) → recordOk (emptyQueue queue size 
 unfolding freshOf
 fresh-queue queue size buffer e = rw e
 
-pub kept : (q : RxQueue) → recordOk q ≡ true → Kept q
+pub kept : (q : RxQueue) → recordOk q ≡ true → Shared (q .shared)
 unfolding recordOk
-kept q e =
-    let a = both (sharedOk (q .shared)) (bufferOk (q .buffer)) e in
-    let buffer = steps-is leastBuffer mostBuffer bufferStep (q .buffer) (a .1) in
-    record { shared-is = shared (q .shared) (a .0); buffer-low = buffer .least; buffer-high = buffer .most }
+kept q e = shared (q .shared) (both (sharedOk (q .shared)) (bufferOk (q .buffer)) e .0)
 
 -- the tail value fits its field of 13 bits
 pub tail-value-fits : (q : RxQueue) → tailValueOf q .value < 2 ^ tailBits
-tail-value-fits q = asked-below (recordOk q) _ _ (omega arith) (λ e. tail-fits (q .shared) (kept q e .shared-is))
+tail-value-fits q = asked-below (recordOk q) _ _ (omega arith) (λ e. tail-fits (q .shared) (kept q e))
 
-pub lent : (q : RxQueue) (ringLength listLength : ℕ) → lentOk q ringLength listLength ≡ true → Lent q ringLength listLength
+pub lent : (q : RxQueue) (ringLength listLength : ℕ) → lentOk q ringLength listLength ≡ true → Lent (q .shared) ringLength listLength
 unfolding lentOk
 lent q ringLength listLength e =
     let a = both (recordOk q) (eqb ringLength (2 * q .shared .size) && eqb listLength (q .shared .size)) e in
@@ -46,7 +43,7 @@ lent q ringLength listLength e =
     record { is = kept q (a .0); ring-long = eqb-true _ _ (l .0); list-long = eqb-true _ _ (l .1) }
 
 -- an accepted post was lent what the size asks, and had room
-pub done-lent : (q : RxQueue) (ringLength listLength address : ℕ) → postAnswer q ringLength listLength address ≡ 0 → Lent q ringLength listLength
+pub done-lent : (q : RxQueue) (ringLength listLength address : ℕ) → postAnswer q ringLength listLength address ≡ 0 → Lent (q .shared) ringLength listLength
 unfolding postAnswer
 done-lent q ringLength listLength address e = lent q ringLength listLength (not-false _ (passed (postChecks q ringLength listLength address) tt e 0))
 

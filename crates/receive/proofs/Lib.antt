@@ -1,6 +1,4 @@
 pub mod Laws
-pub mod Packets
-pub mod Walk
 pub mod Outcomes
 pub mod Keeps
 pub mod Posts

@@ -15,8 +15,8 @@ use Rattle.ring.specs.Queue.{tailOf}
 use Rattle.ring.proofs.Record.{tail-below}
 use Rattle.ring.proofs.Stores.{read-same, read-other}
 use Rattle.ring.proofs.Runs.{run-snoc, run-outside}
+use Rattle.scan.specs.Slots.{Slot, wordsOf, slotIn, storeWords, postedSlots}
 use Rattle.receive.specs.declared.RxQueue.{RxQueue}
-use Rattle.receive.specs.Slots.{Slot, wordsOf, slotIn, storeWords, postedSlots}
 use Rattle.receive.specs.Post.{blank, answerTo, postOf, ringAfter, listAfter, Unchanged}
 use Rattle.receive.proofs.Laws.{done-lent}
 
@@ -58,8 +58,8 @@ module _ (q : RxQueue) (ring list : List ℕ) (address : ℕ) where
 
   -- an accepted one puts a blank slot with its address behind the posted ones, which stay
   pub post-adds : answerTo q ring list address ≡ 0
-      → postedSlots (postOf q ring list address .queue) (ringAfter q ring list address) (listAfter q ring list address)
-      ≡ postedSlots q ring list ++ record { address = address; words = blank address } ∷ []
+      → postedSlots (postOf q ring list address .queue .shared) (ringAfter q ring list address) (listAfter q ring list address)
+      ≡ postedSlots (q .shared) ring list ++ record { address = address; words = blank address } ∷ []
   unfolding postedSlots
   post-adds e =
       let l = done-lent q (length ring) (length list) address e in
@@ -68,6 +68,6 @@ module _ (q : RxQueue) (ring list : List ℕ) (address : ℕ) where
       rw (eq-eqb (answerTo q ring list address) 0 e, add-one (q .shared .posted))
       (run-snoc at′ (q .shared .size) (q .shared .head) (q .shared .posted)
       ∙ rw (
-        run-outside at at′ (q .shared .size) (q .shared .head) (q .shared .posted) (q .shared .posted) (omega arith) (l .is .shared-is .posted-below) (put-other ring list (tailOf (q .shared)) address),
-        put-same ring list (tailOf (q .shared)) address (q .shared .size) (tail-below (q .shared) (l .is .shared-is)) (l .ring-long) (l .list-long),
+        run-outside at at′ (q .shared .size) (q .shared .head) (q .shared .posted) (q .shared .posted) (omega arith) (l .is .posted-below) (put-other ring list (tailOf (q .shared)) address),
+        put-same ring list (tailOf (q .shared)) address (q .shared .size) (tail-below (q .shared) (l .is)) (l .ring-long) (l .list-long),
       ))

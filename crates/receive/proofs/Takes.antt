@@ -1,113 +1,28 @@
 -- What take gives back: zeros beside a refusal, and else exactly the first of the posted slots that make a packet as the device's rules have it.
 -- Assumes nothing.
-use Prim.Native.Nat.{ℕ, suc, _+_, _≤_, _<_}
+use Prim.Native.Nat.{ℕ, _+_}
 use mathlib.Core.Path.{_≡_, refl, ap, _∙_}
-use mathlib.Core.Logic.{_≢_, _⊎_, inl, inr, ⊎-elim}
+use mathlib.Core.Logic.{_≢_, ⊎-elim}
 use mathlib.Core.Bool.{Bool, true, false, not, cond}
-use mathlib.Core.List.{List, [], _∷_, _++_, map}
+use mathlib.Core.List.{List, _++_}
 use native.Mathlib.Omega.{arith}
-use lib.ListN.{length, getD, take, length-append, length-map, List·getD-eq-default}
+use lib.ListN.{length, take, length-append}
 use lib.Seq.{take-append-seam}
-use Rattle.rules.proofs.Tests.{both}
-use Rattle.ring.specs.Slots.{run}
-use Rattle.ring.specs.Queue.{slotOf}
-use Rattle.ring.proofs.Runs.{length-run, getD-run, run-take}
-use Rattle.writeback.specs.WriteBack.{dd, eop, lengthOf, familyOf, writeBackOf}
+use Rattle.writeback.specs.WriteBack.{lengthOf}
+use Rattle.scan.specs.Slots.{Slot, postedSlots}
+use Rattle.scan.specs.Scan.{Complete, Look, refuse, whole, scan}
+use Rattle.scan.specs.Packet.{padded, addressesOf, lengthsOf, packetOf, noPacket, seenBy}
+use Rattle.scan.proofs.Scans.{has-some, has-few, is-seen, seen-is, refused-with, no-slots, slots-long, place-at, place-past}
 use Rattle.receive.specs.declared.RxQueue.{RxQueue}
 use Rattle.receive.specs.declared.Taken.{Taken}
 use Rattle.receive.specs.Queue.{lentOk}
-use Rattle.receive.specs.Slots.{Slot, slotIn, postedSlots}
-use Rattle.receive.specs.Take.{packetSlots, lengthOk, endOk, allowed, writable, Look, refuse, whole, andThen, scan, look, sum, padded, addressesOf, lengthsOf, lastWords, packetOf, noPacket, advanced, takeBy, takeOf}
-use Rattle.receive.specs.Packets.{Complete, ends, goes, HandedUp, Told}
-use Rattle.receive.proofs.Packets.{padded-at, map-at}
-use Rattle.receive.proofs.Walk.{allowed-last, allowed-on, not-fifth}
-
-module _ (buffer k : ℕ) (s : Slot) where
-  parts : writable buffer k (s .words) ≡ true → (dd (s .words) ≡ true) × (allowed buffer k (s .words) ≡ true)
-  unfolding writable
-  parts w = both (dd (s .words)) (allowed buffer k (s .words)) w
-
-  joined : dd (s .words) ≡ true → lengthOk buffer k (s .words) ≡ true → endOk k (s .words) ≡ true → writable buffer k (s .words) ≡ true
-  unfolding writable
-  joined d l e = rw (d, l, e)
-
-module _ (buffer : ℕ) where
-  -- a packet has a slot, and at most five
-  pub has-some : (k : ℕ) (p : List Slot) → Complete buffer k p → 1 ≤ length p
-  has-some k (s ∷ []) (ends w e) = omega arith
-  has-some k (s ∷ p) (goes w e c) = omega arith
-
-  pub has-few : (k : ℕ) (p : List Slot) → k < packetSlots → Complete buffer k p → k + length p ≤ packetSlots
-  has-few k (s ∷ []) h (ends w e) = omega arith
-  has-few k (s ∷ p) h (goes w e c) =
-      omega (arith, has-few (suc k) p (not-fifth buffer k s (parts buffer k s w .1) e) c)
-
-  -- a scan of slots that begin with a packet sees it whole
-  pub is-seen : (k : ℕ) (p rest : List Slot) → Complete buffer k p → scan buffer k (p ++ rest) ≡ whole p
-  unfolding andThen
-  is-seen k (s ∷ []) rest (ends w e) = let b = parts buffer k s w in allowed-last buffer k s rest (b .0) (b .1) e
-  is-seen k (s ∷ p) rest (goes w e c) =
-      let b = parts buffer k s w in
-      allowed-on buffer k s (p ++ rest) (b .0) (b .1) e ∙ rw (is-seen (suc k) p rest c)
-
--- a packet, and the slots after it
-pub record Begins (buffer k : ℕ) (slots p : List Slot) : Type 0 where
-  pub complete : Complete buffer k p
-  pub rest : List Slot
-  pub are : slots ≡ p ++ rest
-
--- and what a scan sees whole is a packet that the slots begin with
-pub seen-is : (buffer k : ℕ) (slots p : List Slot) → scan buffer k slots ≡ whole p → Begins buffer k slots p
-unfolding scan andThen
-seen-is buffer k [] p h = let z : _≡_ {A = ℕ} 0 1 = cc in absurd (omega arith)
-seen-is buffer k (s ∷ rest) p h =
-    go (dd (s .words)) (lengthOk buffer k (s .words)) (endOk k (s .words)) (eop (s .words)) (scan buffer (suc k) rest) refl refl refl refl h (λ p′. seen-is buffer (suc k) rest p′)
-  where
-    onward : (l : Look) → andThen s l ≡ whole p → writable buffer k (s .words) ≡ true → eop (s .words) ≡ false
-        → ((p′ : List Slot) → l ≡ whole p′ → Begins buffer (suc k) rest p′) → Begins buffer k (s ∷ rest) p
-    onward (refuse n) h w e r = let z : _≡_ {A = ℕ} 0 1 = cc in absurd (omega arith)
-    onward (whole p′) h w e r =
-        let b = r p′ refl in
-        let q : s ∷ p′ ≡ p = cc in
-        rw (← q) (record { complete = goes w e (b .complete); rest = b .rest; are = ap (λ (x : List Slot). s ∷ x) (b .are) })
-
-    go : (d l n e : Bool) (f : Look) → dd (s .words) ≡ d → lengthOk buffer k (s .words) ≡ l → endOk k (s .words) ≡ n → eop (s .words) ≡ e
-        → cond (not d) (refuse 4) (cond (not l) (refuse 5) (cond (not n) (refuse 5) (cond e (whole (s ∷ [])) (andThen s f)))) ≡ whole p
-        → ((p′ : List Slot) → f ≡ whole p′ → Begins buffer (suc k) rest p′) → Begins buffer k (s ∷ rest) p
-    go false l n e f hd hl hn he h r = let z : _≡_ {A = ℕ} 0 1 = cc in absurd (omega arith)
-    go true false n e f hd hl hn he h r = let z : _≡_ {A = ℕ} 0 1 = cc in absurd (omega arith)
-    go true true false e f hd hl hn he h r = let z : _≡_ {A = ℕ} 0 1 = cc in absurd (omega arith)
-    go true true true true f hd hl hn he h r =
-        let q : s ∷ [] ≡ p = cc in
-        rw (← q) (record { complete = ends (joined buffer k s hd hl hn) he; rest = rest; are = refl })
-    go true true true false f hd hl hn he h r = onward f h (joined buffer k s hd hl hn) he r
-
--- a scan refuses with 4 or 5
-pub refused-with : (buffer k : ℕ) (slots : List Slot) (n : ℕ) → scan buffer k slots ≡ refuse n → (n ≡ 4) ⊎ (n ≡ 5)
-unfolding scan andThen
-refused-with buffer k [] n h = inl (cc)
-refused-with buffer k (s ∷ rest) n h =
-    go (dd (s .words)) (lengthOk buffer k (s .words)) (endOk k (s .words)) (eop (s .words)) (scan buffer (suc k) rest) h (λ m. refused-with buffer (suc k) rest m)
-  where
-    go : (d l e o : Bool) (f : Look)
-        → cond (not d) (refuse 4) (cond (not l) (refuse 5) (cond (not e) (refuse 5) (cond o (whole (s ∷ [])) (andThen s f)))) ≡ refuse n
-        → ((m : ℕ) → f ≡ refuse m → (m ≡ 4) ⊎ (m ≡ 5)) → (n ≡ 4) ⊎ (n ≡ 5)
-    go false l e o f h r = inl (cc)
-    go true false e o f h r = inr (cc)
-    go true true false o f h r = inr (cc)
-    go true true true true f h r = let z : _≡_ {A = ℕ} 0 1 = cc in absurd (omega arith)
-    go true true true false (refuse m) h r = let e : m ≡ n = cc in rw (← e) (r m refl)
-    go true true true false (whole p) h r = let z : _≡_ {A = ℕ} 0 1 = cc in absurd (omega arith)
-
--- the packet of no slots is zeros throughout
-pub no-slots : packetOf [] ≡ noPacket
-unfolding packetOf padded sum lastWords writeBackOf familyOf
-no-slots = refl
+use Rattle.receive.specs.Take.{look, advanced, takeBy, takeOf}
+use Rattle.receive.specs.Packets.{HandedUp, Told}
 
 module _ (q : RxQueue) (ring list : List ℕ) where
   -- a take that answers other than 0 returns the record as it came, and zeros
   pub take-refused : takeOf q ring list .answer ≢ 0 → takeOf q ring list ≡ record { answer = takeOf q ring list .answer; queue = q; packet = noPacket }
-  unfolding takeOf takeBy
+  unfolding takeOf takeBy seenBy
   take-refused ne = go (look q ring list) ne
     where
       go : (l : Look) → takeBy l q .answer ≢ 0 → takeBy l q ≡ record { answer = takeBy l q .answer; queue = q; packet = noPacket }
@@ -115,14 +30,10 @@ module _ (q : RxQueue) (ring list : List ℕ) where
       go (whole p) ne = absurd (ne refl)
 
   abbrev slots : List Slot
-  slots = postedSlots q ring list
-
-  pub slots-long : length slots ≡ q .shared .posted
-  unfolding postedSlots
-  slots-long = length-run (slotIn ring list) (q .shared .size) (q .shared .head) (q .shared .posted)
+  slots = postedSlots (q .shared) ring list
 
   by-scan : (p : List Slot) → lentOk q (length ring) (length list) ≡ true → scan (q .buffer) 0 slots ≡ whole p → HandedUp q ring list (takeBy (whole p) q)
-  unfolding takeBy packetOf
+  unfolding takeBy seenBy packetOf
   by-scan p a h =
       let b = seen-is (q .buffer) 0 slots p h in
       let few = has-few (q .buffer) 0 p (omega arith) (b .complete) in
@@ -131,7 +42,7 @@ module _ (q : RxQueue) (ring list : List ℕ) where
       record {
         some = has-some (q .buffer) 0 p (b .complete);
         five = omega arith;
-        within = omega (arith, slots-long);
+        within = omega (arith, slots-long (q .shared) ring list);
         accepted = a;
         complete = rw e (b .complete);
         is = rw e;
@@ -139,7 +50,7 @@ module _ (q : RxQueue) (ring list : List ℕ) where
 
   by-look : (a : Bool) (l : Look) → lentOk q (length ring) (length list) ≡ a → scan (q .buffer) 0 slots ≡ l → takeBy (cond (not a) (refuse 1) l) q .answer ≡ 0
       → HandedUp q ring list (takeBy (cond (not a) (refuse 1) l) q)
-  unfolding takeBy
+  unfolding takeBy seenBy
   by-look false l e h z = let y : _≡_ {A = ℕ} 1 0 = z in absurd (omega arith)
   by-look true (refuse n) e h z = absurd (⊎-elim (λ f. omega arith) (λ f. omega arith) (refused-with (q .buffer) 0 slots n h))
   by-look true (whole p) e h z = by-scan p e h
@@ -150,36 +61,10 @@ module _ (q : RxQueue) (ring list : List ℕ) where
   hands-up z = by-look (lentOk q (length ring) (length list)) (scan (q .buffer) 0 slots) refl refl z
 
   -- and it hands up whenever the posted slots begin with a packet
-  pub hands-up-if : (p rest : List Slot) → lentOk q (length ring) (length list) ≡ true → Complete (q .buffer) 0 p → postedSlots q ring list ≡ p ++ rest
+  pub hands-up-if : (p rest : List Slot) → lentOk q (length ring) (length list) ≡ true → Complete (q .buffer) 0 p → postedSlots (q .shared) ring list ≡ p ++ rest
       → takeOf q ring list ≡ record { answer = 0; queue = advanced q (length p); packet = packetOf p }
-  unfolding takeOf look takeBy
+  unfolding takeOf look takeBy seenBy
   hands-up-if p rest a c e = rw (a, e, is-seen (q .buffer) 0 p rest c)
-
-  module _ (f : Slot → ℕ) (n : ℕ) (few : n ≤ packetSlots) (within : n ≤ q .shared .posted) (i : ℕ) where
-    abbrev told : List ℕ
-    told = map f (take n slots)
-
-    told-long : length told ≡ n
-    unfolding postedSlots
-    told-long =
-        length-map (take n slots) f
-        ∙ ap length (run-take (slotIn ring list) (q .shared .size) (q .shared .head) n (q .shared .posted) within)
-        ∙ length-run (slotIn ring list) (q .shared .size) (q .shared .head) n
-
-    padded-told : getD (padded told) i 0 ≡ getD told i 0
-    padded-told = padded-at told i (rw told-long few)
-
-    place-at : i < n → getD (padded told) i 0 ≡ f (slotIn ring list (slotOf (q .shared) i))
-    unfolding postedSlots
-    place-at h =
-        let at : ℕ → Slot = slotIn ring list in
-        padded-told
-        ∙ ap (λ (p : List Slot). getD (map f p) i 0) (run-take at (q .shared .size) (q .shared .head) n (q .shared .posted) within)
-        ∙ map-at f (run at (q .shared .size) (q .shared .head) n) i (at 0) (rw length-run h)
-        ∙ ap f (getD-run at (q .shared .size) (q .shared .head) n i (at 0) h)
-
-    place-past : n ≤ i → getD (padded told) i 0 ≡ 0
-    place-past h = padded-told ∙ List·getD-eq-default told 0 {n = i} (rw told-long h)
 
   pub tells : (t : Taken) → HandedUp q ring list t → Told q ring list t
   unfolding packetOf
@@ -188,9 +73,9 @@ module _ (q : RxQueue) (ring list : List ℕ) where
       let a : t .packet .addresses ≡ padded (addressesOf (take n slots)) = ap (λ (x : Taken). x .packet .addresses) (u .is) in
       let l : t .packet .lengths ≡ padded (lengthsOf (take n slots)) = ap (λ (x : Taken). x .packet .lengths) (u .is) in
       record {
-        address-at = λ i h. rw a (place-at (λ (s : Slot). s .address) n (u .five) (u .within) i h);
-        length-at = λ i h. rw l (place-at (λ (s : Slot). lengthOf (s .words)) n (u .five) (u .within) i h);
-        address-past = λ i h. rw a (place-past (λ (s : Slot). s .address) n (u .five) (u .within) i h);
-        length-past = λ i h. rw l (place-past (λ (s : Slot). lengthOf (s .words)) n (u .five) (u .within) i h);
+        address-at = λ i h. rw a (place-at (q .shared) ring list (λ (s : Slot). s .address) n (u .five) (u .within) i h);
+        length-at = λ i h. rw l (place-at (q .shared) ring list (λ (s : Slot). lengthOf (s .words)) n (u .five) (u .within) i h);
+        address-past = λ i h. rw a (place-past (q .shared) ring list (λ (s : Slot). s .address) n (u .five) (u .within) i h);
+        length-past = λ i h. rw l (place-past (q .shared) ring list (λ (s : Slot). lengthOf (s .words)) n (u .five) (u .within) i h);
         total-is = ap (λ (x : Taken). x .packet .total) (u .is);
       }

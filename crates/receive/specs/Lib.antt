@@ -1,5 +1,4 @@
 pub mod Queue
-pub mod Slots
 pub mod Post
 pub mod Take
 pub mod Packets

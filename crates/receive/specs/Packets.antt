@@ -1,22 +1,19 @@
--- A packet as the device's rules have it, and what a take that hands one up gives back (01, "Receiving").
+-- What a take that hands up a packet gives back (01, "Receiving").
 -- Assumes nothing.
-use Prim.Native.Nat.{ℕ, suc, _≤_, _<_}
+use Prim.Native.Nat.{ℕ, _≤_, _<_}
 use mathlib.Core.Path.{_≡_}
-use mathlib.Core.Bool.{true, false}
-use mathlib.Core.List.{List, [], _∷_}
+use mathlib.Core.Bool.{true}
+use mathlib.Core.List.{List}
 use lib.ListN.{length, getD, take}
 use Rattle.ring.specs.Queue.{slotOf}
-use Rattle.writeback.specs.WriteBack.{eop, lengthOf}
+use Rattle.writeback.specs.WriteBack.{lengthOf}
+use Rattle.scan.specs.Slots.{slotIn, postedSlots}
+use Rattle.scan.specs.Scan.{packetSlots, Complete}
+use Rattle.scan.specs.Packet.{sum, lengthsOf, packetOf}
 use Rattle.receive.specs.declared.RxQueue.{RxQueue}
 use Rattle.receive.specs.declared.Taken.{Taken}
 use Rattle.receive.specs.Queue.{lentOk}
-use Rattle.receive.specs.Slots.{Slot, slotIn, postedSlots}
-use Rattle.receive.specs.Take.{packetSlots, writable, sum, lengthsOf, packetOf, advanced}
-
--- k slots of the packet passed: each slot is one that the device may write at its place, and only the last has EOP
-pub data Complete (buffer : ℕ) : ℕ → List Slot → Type 0 where
-  ends : {k : ℕ} {s : Slot} → writable buffer k (s .words) ≡ true → eop (s .words) ≡ true → Complete buffer k (s ∷ [])
-  goes : {k : ℕ} {s : Slot} {p : List Slot} → writable buffer k (s .words) ≡ true → eop (s .words) ≡ false → Complete buffer (suc k) p → Complete buffer k (s ∷ p)
+use Rattle.receive.specs.Take.{advanced}
 
 module _ (q : RxQueue) (ring list : List ℕ) (t : Taken) where
   -- answer 0: a packet of one to five slots, which are the first posted ones
@@ -25,8 +22,8 @@ module _ (q : RxQueue) (ring list : List ℕ) (t : Taken) where
     pub five : t .packet .count ≤ packetSlots
     pub within : t .packet .count ≤ q .shared .posted
     pub accepted : lentOk q (length ring) (length list) ≡ true
-    pub complete : Complete (q .buffer) 0 (take (t .packet .count) (postedSlots q ring list))
-    pub is : t ≡ record { answer = 0; queue = advanced q (t .packet .count); packet = packetOf (take (t .packet .count) (postedSlots q ring list)) }
+    pub complete : Complete (q .buffer) 0 (take (t .packet .count) (postedSlots (q .shared) ring list))
+    pub is : t ≡ record { answer = 0; queue = advanced q (t .packet .count); packet = packetOf (take (t .packet .count) (postedSlots (q .shared) ring list)) }
 
   -- slot by slot: the address that the list keeps for it, its length, 0 past the slots, and the sum of the lengths
   pub record Told : Type 0 where
@@ -34,4 +31,4 @@ module _ (q : RxQueue) (ring list : List ℕ) (t : Taken) where
     pub length-at : (i : ℕ) → i < t .packet .count → getD (t .packet .lengths) i 0 ≡ lengthOf (slotIn ring list (slotOf (q .shared) i) .words)
     pub address-past : (i : ℕ) → t .packet .count ≤ i → getD (t .packet .addresses) i 0 ≡ 0
     pub length-past : (i : ℕ) → t .packet .count ≤ i → getD (t .packet .lengths) i 0 ≡ 0
-    pub total-is : t .packet .total ≡ sum (lengthsOf (take (t .packet .count) (postedSlots q ring list)))
+    pub total-is : t .packet .total ≡ sum (lengthsOf (take (t .packet .count) (postedSlots (q .shared) ring list)))

@@ -10,10 +10,10 @@ use Rattle.rules.specs.Rules.{Check, _when_, answerOf}
 use Rattle.rules.specs.Address.{addressWrong}
 use Rattle.ring.specs.Queue.{tailOf, grown}
 use Rattle.writeback.specs.WriteBack.{Words}
+use Rattle.scan.specs.Slots.{storeWords}
 use Rattle.receive.specs.declared.RxQueue.{RxQueue}
 use Rattle.receive.specs.declared.Posted.{Posted}
 use Rattle.receive.specs.Queue.{lentOk, movedTo}
-use Rattle.receive.specs.Slots.{storeWords}
 
 -- 1 the record or a slice's length is wrong, 2 the address is wrong, 3 posted = size - 1
 abbrev pub postChecks : RxQueue → ℕ → ℕ → ℕ → List Check

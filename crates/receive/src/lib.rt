@@ -1,13 +1,10 @@
 // The receive queue of the driver core: fresh queues and the tail (queue), post, take.
 use ring::Queue;
-use writeback::WriteBack;
+use scan::Packet;
 
 mod post;
 mod queue;
 mod take;
-
-// A packet is 1 to 5 slots.
-const PACKET_SLOTS: usize = 5;
 
 // What every queue's record has, and the size of a buffer.
 pub struct RxQueue {
@@ -23,15 +20,6 @@ pub struct Fresh {
 pub struct Posted {
     pub answer: u8,
     pub queue: RxQueue,
-}
-
-// A packet handed up: places past its slots are 0, and the fields are those of its last slot.
-pub struct Packet {
-    pub count: usize,
-    pub total: usize,
-    pub addresses: [u64; PACKET_SLOTS],
-    pub lengths: [usize; PACKET_SLOTS],
-    pub last: WriteBack,
 }
 
 pub struct Taken {

@@ -3,7 +3,8 @@ ghost use mathlib.Core.Path.{_≡_};
 ghost use lib.ListN.{length};
 ghost use Rattle.ring.specs.Steps.{Grow};
 ghost use Rattle.receive.specs.Post.{postAnswer, oneMore, PostedAs};
-ghost use Rattle.receive.specs.Steps.{Lent, PutAs};
+ghost use Rattle.scan.specs.Steps.{Lent};
+ghost use Rattle.receive.specs.Steps.{PutAs};
 use crate::Posted;
 use crate::RxQueue;
 
@@ -28,7 +29,7 @@ impl RxQueue {
 
     // The words of the slot at the tail, and the address beside them.
     fn put(self, ring: &mut [u64], list: &mut [u64], address: u64)
-        requires { ⌜ Lent self (length (now ring)) (length (now list)) ⌝ }
+        requires { ⌜ Lent (self .shared) (length (now ring)) (length (now list)) ⌝ }
         ensures { λ r. ⌜ PutAs self (now (ring .entry)) (now (list .entry)) address (now (ring .exit)) (now (list .exit)) ⌝ }
     {
         let tail = self.shared.tail();

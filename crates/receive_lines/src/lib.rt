@@ -1,12 +1,12 @@
 // The lines of a script that are for the receive queue: its record, and how much of its memory is lent. A part of the program `probe`:
 // what it prints is compared.
 use command::Command;
-use receive::Packet;
 use receive::Posted;
 use receive::RxQueue;
 use receive::Taken;
 use ring::Asked;
 use ring::Queue;
+use scan::Packet;
 use script::Given;
 use script::LONGEST;
 use script::RING;

@@ -6,8 +6,9 @@ use mathlib.Core.List.{List, [], _∷_, _++_, map}
 use native.Mathlib.Nat.{zero-add, add-zero, add-assoc}
 use native.Mathlib.Omega.{arith}
 use lib.ListN.{length, getD, set, take, replicate}
-use Rattle.receive.specs.Slots.{Slot}
-use Rattle.receive.specs.Take.{packetSlots, Look, refuse, whole, andThen, sum, padded, lastWords}
+use Rattle.scan.specs.Slots.{Slot}
+use Rattle.scan.specs.Scan.{packetSlots, Look, refuse, whole, andThen}
+use Rattle.scan.specs.Packet.{sum, padded, lastWords}
 
 -- ---- the places, those past the slots 0
 

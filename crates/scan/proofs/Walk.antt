@@ -11,15 +11,16 @@ use borrow.Author.Tests.{ltb-true}
 use lib.Dec.{ltb}
 use lib.ListN.{length, set, length-map}
 use Rattle.rules.proofs.Tests.{both}
+use Rattle.ring.specs.declared.Queue.{Queue}
 use Rattle.ring.specs.Slots.{run}
-use Rattle.ring.specs.Queue.{slotOf}
+use Rattle.ring.specs.Queue.{slotOf, advanced}
 use Rattle.ring.proofs.Runs.{length-run, run-snoc}
 use Rattle.writeback.specs.Places.{lengthPlace}
 use Rattle.writeback.specs.WriteBack.{Words, dd, eop, lengthOf, writeBackOf}
-use Rattle.receive.specs.declared.RxQueue.{RxQueue}
-use Rattle.receive.specs.Slots.{Slot, slotIn, postedSlots}
-use Rattle.receive.specs.Take.{packetSlots, lengthOk, endOk, allowed, Look, refuse, whole, andThen, scan, sum, padded, addressesOf, lengthsOf, packetOf, advanced, takeBy}
-use Rattle.receive.proofs.Packets.{padded-more, sum-more, map-more, last-more, after, after-more, after-refuse, after-whole}
+use Rattle.scan.specs.Slots.{Slot, slotIn, postedSlots}
+use Rattle.scan.specs.Scan.{packetSlots, lengthOk, endOk, allowed, Look, refuse, whole, andThen, scan}
+use Rattle.scan.specs.Packet.{sum, padded, addressesOf, lengthsOf, packetOf, seenBy}
+use Rattle.scan.proofs.Packets.{padded-more, sum-more, map-more, last-more, after, after-more, after-refuse, after-whole}
 
 -- ---- one slot of a scan
 
@@ -52,36 +53,37 @@ module _ (buffer k : ℕ) (s : Slot) (rest : List Slot) where
   unfolding scan
   allowed-on d a e = let b = both (lengthOk buffer k (s .words)) (endOk k (s .words)) a in rw (d, b .0, b .1, e)
 
-module _ (q : RxQueue) (ring list : List ℕ) where
+module _ (q : Queue) (ring list : List ℕ) where
   -- the slot at distance k from head; the first k slots, and those after them
   abbrev pub slotNo : ℕ → Slot
-  slotNo k = slotIn ring list (slotOf (q .shared) k)
+  slotNo k = slotIn ring list (slotOf q k)
 
   abbrev pub seen : ℕ → List Slot
-  seen k = run (slotIn ring list) (q .shared .size) (q .shared .head) k
+  seen k = run (slotIn ring list) (q .size) (q .head) k
 
   abbrev pub rest : ℕ → List Slot
-  rest k = run (slotIn ring list) (q .shared .size) (q .shared .head + k) (q .shared .posted - k)
+  rest k = run (slotIn ring list) (q .size) (q .head + k) (q .posted - k)
 
+  rest-more : (k : ℕ) → k < q .posted → rest k ≡ slotNo k ∷ rest (suc k)
+  unfolding run
+  rest-more k h = let e : q .posted - k ≡ suc (q .posted - suc k) = omega arith in rw (e, add-suc (q .head) k)
+
+  rest-none : (k : ℕ) → q .posted ≤ k → rest k ≡ []
+  unfolding run
+  rest-none k h = let e : q .posted - k ≡ 0 = omega arith in rw e
+
+module _ (q : Queue) (buffer : ℕ) (ring list : List ℕ) where
   abbrev pub scanned : Look
-  scanned = scan (q .buffer) 0 (postedSlots q ring list)
-
-  rest-more : (k : ℕ) → k < q .shared .posted → rest k ≡ slotNo k ∷ rest (suc k)
-  unfolding run
-  rest-more k h = let e : q .shared .posted - k ≡ suc (q .shared .posted - suc k) = omega arith in rw (e, add-suc (q .shared .head) k)
-
-  rest-none : (k : ℕ) → q .shared .posted ≤ k → rest k ≡ []
-  unfolding run
-  rest-none k h = let e : q .shared .posted - k ≡ 0 = omega arith in rw e
+  scanned = scan buffer 0 (postedSlots q ring list)
 
   -- k slots of the packet are seen, none of which is its last: the places and the total are theirs
   pub record Walked (addresses lengths : List ℕ) (total k : ℕ) : Type 0 where
     pub few : k < packetSlots
-    pub within : k ≤ q .shared .posted
-    pub so-far : scanned ≡ after (seen k) (scan (q .buffer) k (rest k))
-    pub addresses-are : addresses ≡ padded (addressesOf (seen k))
-    pub lengths-are : lengths ≡ padded (lengthsOf (seen k))
-    pub total-is : total ≡ sum (lengthsOf (seen k))
+    pub within : k ≤ q .posted
+    pub so-far : scanned ≡ after (seen q ring list k) (scan buffer k (rest q ring list k))
+    pub addresses-are : addresses ≡ padded (addressesOf (seen q ring list k))
+    pub lengths-are : lengths ≡ padded (lengthsOf (seen q ring list k))
+    pub total-is : total ≡ sum (lengthsOf (seen q ring list k))
     pub total-small : total ≤ 16383 * k
 
   pub first : Walked (padded []) (padded []) 0 0
@@ -102,14 +104,14 @@ word1-only : (buffer k : ℕ) (x : Words) → allowed buffer k (record { word0 =
 unfolding lengthOk endOk
 word1-only buffer k x = refl
 
-module _ (q : RxQueue) (ring list addresses lengths : List ℕ) (total k : ℕ) (w : Walked q ring list addresses lengths total k) where
+module _ (q : Queue) (buffer : ℕ) (ring list addresses lengths : List ℕ) (total k : ℕ) (w : Walked q buffer ring list addresses lengths total k) where
   -- past the posted ones
-  pub at-end : q .shared .posted ≤ k → scanned q ring list ≡ refuse 4
+  pub at-end : q .posted ≤ k → scanned q buffer ring list ≡ refuse 4
   unfolding scan
   at-end h = w .so-far ∙ rw (rest-none q ring list k h) (after-refuse _ _)
 
   -- the slot at distance k, which the code reads at its number
-  module _ (h : k < q .shared .posted) (at : ℕ) (is : at ≡ slotOf (q .shared) k) where
+  module _ (h : k < q .posted) (at : ℕ) (is : at ≡ slotOf q k) where
     abbrev here : Slot
     here = slotIn ring list at
 
@@ -117,32 +119,32 @@ module _ (q : RxQueue) (ring list addresses lengths : List ℕ) (total k : ℕ) 
     size = lengthOf (here .words)
 
     abbrev ok : Bool
-    ok = allowed (q .buffer) k (record { word0 = 0; word1 = here .words .word1 })
+    ok = allowed buffer k (record { word0 = 0; word1 = here .words .word1 })
 
-    allow : {b : Bool} → ok ≡ b → allowed (q .buffer) k (here .words) ≡ b
-    allow e = sym (word1-only (q .buffer) k (here .words)) ∙ e
+    allow : {b : Bool} → ok ≡ b → allowed buffer k (here .words) ≡ b
+    allow e = sym (word1-only buffer k (here .words)) ∙ e
 
-    from-here : (l : Look) → scan (q .buffer) k (here ∷ rest q ring list (suc k)) ≡ l → scanned q ring list ≡ after (seen q ring list k) l
+    from-here : (l : Look) → scan buffer k (here ∷ rest q ring list (suc k)) ≡ l → scanned q buffer ring list ≡ after (seen q ring list k) l
     from-here l e =
         w .so-far
         ∙ rw (rest-more q ring list k h)
-        (ap (λ (j : ℕ). after (seen q ring list k) (scan (q .buffer) k (slotIn ring list j ∷ rest q ring list (suc k)))) (sym is)
+        (ap (λ (j : ℕ). after (seen q ring list k) (scan buffer k (slotIn ring list j ∷ rest q ring list (suc k)))) (sym is)
         ∙ ap (after (seen q ring list k)) e)
 
-    pub at-clear : dd (here .words) ≡ false → scanned q ring list ≡ refuse 4
+    pub at-clear : dd (here .words) ≡ false → scanned q buffer ring list ≡ refuse 4
     at-clear d = from-here _ (not-done _ _ here _ d) ∙ after-refuse _ _
 
-    pub at-wrong : dd (here .words) ≡ true → ok ≡ false → scanned q ring list ≡ refuse 5
+    pub at-wrong : dd (here .words) ≡ true → ok ≡ false → scanned q buffer ring list ≡ refuse 5
     at-wrong d a = from-here _ (not-allowed _ _ here _ d (allow a)) ∙ after-refuse _ _
 
     more : seen q ring list (k + 1) ≡ seen q ring list k ++ here ∷ []
     more =
         rw (add-one k)
-        (run-snoc (slotIn ring list) (q .shared .size) (q .shared .head) k
+        (run-snoc (slotIn ring list) (q .size) (q .head) k
         ∙ ap (λ (j : ℕ). seen q ring list k ++ slotIn ring list j ∷ []) (sym is))
 
     long : length (seen q ring list k) ≡ k
-    long = length-run (slotIn ring list) (q .shared .size) (q .shared .head) k
+    long = length-run (slotIn ring list) (q .size) (q .head) k
 
     -- what is told of a slot, put at its place
     places-more : (f : Slot → ℕ) (ns : List ℕ) → ns ≡ padded (map f (seen q ring list k)) → set ns k (f here) ≡ padded (map f (seen q ring list (k + 1)))
@@ -163,10 +165,10 @@ module _ (q : RxQueue) (ring list addresses lengths : List ℕ) (total k : ℕ) 
 
     -- the packet goes on
     pub next : dd (here .words) ≡ true → ok ≡ true → eop (here .words) ≡ false
-        → Walked q ring list (set addresses k (here .address)) (set lengths k size) (total + size) (k + 1)
+        → Walked q buffer ring list (set addresses k (here .address)) (set lengths k size) (total + size) (k + 1)
     next d a e =
         record {
-          few = omega (arith, not-fifth (q .buffer) k here (allow a) e);
+          few = omega (arith, not-fifth buffer k here (allow a) e);
           within = omega arith;
           so-far = from-here _ (allowed-on _ _ here _ d (allow a) e) ∙ rw (more, add-one k) (sym (after-more _ _ _));
           addresses-are = addresses-more;
@@ -177,7 +179,7 @@ module _ (q : RxQueue) (ring list addresses lengths : List ℕ) (total k : ℕ) 
 
     -- the packet is complete
     pub complete : dd (here .words) ≡ true → ok ≡ true → eop (here .words) ≡ true
-        → takeBy (scanned q ring list) q
+        → seenBy (scanned q buffer ring list) q
         ≡ record {
           answer = 0;
           queue = advanced q (k + 1);
@@ -189,7 +191,7 @@ module _ (q : RxQueue) (ring list addresses lengths : List ℕ) (total k : ℕ) 
             last = writeBackOf (here .words);
           };
         }
-    unfolding takeBy packetOf
+    unfolding seenBy packetOf
     complete d a e =
         rw (from-here _ (allowed-last _ _ here _ d (allow a) e) ∙ after-whole _ _ ∙ ap whole (sym more))
         (rw (addresses-more, lengths-more, total-more, length-run) (rw (more, last-more)))

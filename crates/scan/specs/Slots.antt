@@ -6,7 +6,7 @@ use lib.ListN.{getD}
 use Rattle.ring.specs.Slots.{run}
 use Rattle.ring.specs.Memory.{store, numbersAt}
 use Rattle.writeback.specs.WriteBack.{Words}
-use Rattle.receive.specs.declared.RxQueue.{RxQueue}
+use Rattle.ring.specs.declared.Queue.{Queue}
 
 -- a posted slot: the address that the companion list keeps for it, and its words
 pub record Slot : Type 0 where
@@ -26,5 +26,5 @@ abbrev pub storeWords : List ℕ → ℕ → Words → List ℕ
 storeWords ring j x = store 2 ring j (x .word0 ∷ x .word1 ∷ [])
 
 -- the slots that are the device's: from head upward, as many as are posted
-unfoldable pub postedSlots : RxQueue → List ℕ → List ℕ → List Slot
-postedSlots q ring list = run (slotIn ring list) (q .shared .size) (q .shared .head) (q .shared .posted)
+unfoldable pub postedSlots : Queue → List ℕ → List ℕ → List Slot
+postedSlots q ring list = run (slotIn ring list) (q .size) (q .head) (q .posted)

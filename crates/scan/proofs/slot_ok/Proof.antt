@@ -1,10 +1,10 @@
 -- `slot_ok` meets its contract: the two rules of the definition, joined.
 -- Assumes nothing.
 use native.Mathlib.Numerals.{add-one}
-use Rattle.receive.specs.Take.{lengthOk, endOk}
+use Rattle.scan.specs.Scan.{lengthOk, endOk}
 use borrow.Author.Needs.{needs}
-use Rattle.receive.proofs.take.slot_ok.Statement.{statement}
-use Rattle.receive.proofs.take.slot_ok.Tie as tie
+use Rattle.scan.proofs.slot_ok.Statement.{statement}
+use Rattle.scan.proofs.slot_ok.Tie as tie
 
 length-requires : tie.Need-length-requires
 length-requires c κs = search needs

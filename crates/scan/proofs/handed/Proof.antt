@@ -1,8 +1,8 @@
--- `RxQueue::handed` meets its contract: the shared part moves on by the count.
+-- `handed` meets its contract: the shared part moves on by the count.
 -- Assumes nothing.
 use borrow.Author.Needs.{needs}
-use Rattle.receive.proofs.RxQueue.handed.Statement.{statement}
-use Rattle.receive.proofs.RxQueue.handed.Tie as tie
+use Rattle.scan.proofs.handed.Statement.{statement}
+use Rattle.scan.proofs.handed.Tie as tie
 
 advanced-requires : tie.Need-advanced-requires
 advanced-requires c κs = search needs

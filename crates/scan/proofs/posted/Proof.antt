@@ -1,24 +1,24 @@
--- `RxQueue::scan` meets its contract. The loop's invariant: k slots are seen, none the last of its packet (`Walked`); each way out is one law of it.
+-- `posted` meets its contract. The loop's invariant: k slots are seen, none the last of its packet (`Walked`); each way out is one law of it.
 -- Assumes nothing.
 use mathlib.Core.Path.{sym, _∙_}
 use borrow.Author.Tests.{not-true, not-false}
 use Prim.Native.Nat.{_-_}
 use native.Mathlib.Omega.{arith}
 use borrow.Author.Needs.{needs}
-use Rattle.receive.specs.Take.{padded}
-use Rattle.receive.proofs.Walk.{Walked, first, at-end, at-clear, at-wrong, next, complete}
-use Rattle.receive.proofs.RxQueue.scan.Statement.{statement}
-use Rattle.receive.proofs.RxQueue.scan.Tie as tie
+use Rattle.scan.specs.Packet.{padded}
+use Rattle.scan.proofs.Walk.{Walked, first, at-end, at-clear, at-wrong, next, complete}
+use Rattle.scan.proofs.posted.Statement.{statement}
+use Rattle.scan.proofs.posted.Tie as tie
 
 abbrev Inv-loop : tie.InvT-loop
-Inv-loop self ring list size head posted addresses₀ lengths₀ total₀ k₀ addresses lengths total k = Walked self ring list addresses lengths total k
+Inv-loop queue buffer ring list size head posted addresses₀ lengths₀ total₀ k₀ addresses lengths total k = Walked queue buffer ring list addresses lengths total k
 
 abbrev μ-loop : tie.MeasureT-loop
-μ-loop self ring list size head posted addresses₀ lengths₀ total₀ k₀ addresses lengths total k = self .shared .posted - k
+μ-loop queue buffer ring list size head posted addresses₀ lengths₀ total₀ k₀ addresses lengths total k = queue .posted - k
 
 loop-holds : tie.Need-loop-holds Inv-loop μ-loop
 unfolding padded
-loop-holds c = first _ _ _
+loop-holds c = first _ _ _ _
 
 slot-requires : tie.Need-slot-requires Inv-loop μ-loop
 slot-requires c κs = search needs
@@ -44,7 +44,7 @@ refused-requires c κs = search needs
 returns : tie.Need-returns Inv-loop μ-loop
 returns c =
     let d = sym (c .before .before .dd .ensures) ∙ not-true _ (c .before .if1 .taken) in
-    rw (at-clear _ _ _ _ _ _ _ (c .before .before .before .before .before .before .loop .inv) (omega arith) _ (c .before .before .before .before .slot .ensures .is) d) (c .refused .ensures)
+    rw (at-clear _ _ _ _ _ _ _ _ (c .before .before .before .before .before .before .loop .inv) (omega arith) _ (c .before .before .before .before .slot .ensures .is) d) (c .refused .ensures)
 
 slot-ok-requires : tie.Need-slot-ok-requires Inv-loop μ-loop
 slot-ok-requires c κs = search needs
@@ -99,7 +99,7 @@ returns-2 c =
     let e = sym (c .before .before .before .before .eop .ensures) ∙ c .before .before .before .if3 .taken in
     c .handed .ensures
     ∙ rw (c .before .read .ensures, c .before .before .before .before .before .before .length .ensures)
-    (sym (complete _ _ _ _ _ _ _ (p .before .before .before .before .before .loop .inv) (omega arith) _ (p .before .before .before .slot .ensures .is) d a e))
+    (sym (complete _ _ _ _ _ _ _ _ (p .before .before .before .before .before .loop .inv) (omega arith) _ (p .before .before .before .slot .ensures .is) d a e))
 
 loop-less : tie.Need-loop-less Inv-loop μ-loop
 loop-less c = search needs
@@ -110,7 +110,7 @@ loop-again c =
     let d = sym (p .before .dd .ensures) ∙ not-false _ (p .if1 .left) in
     let a = sym (c .before .before .before .before .before .slot-ok .ensures) ∙ c .before .before .before .before .if2 .taken in
     let e = sym (c .before .eop .ensures) ∙ c .if3 .left in
-    rw (c .before .before .before .length .ensures) (next _ _ _ _ _ _ _ (p .before .before .before .before .before .loop .inv) (omega arith) _ (p .before .before .before .slot .ensures .is) d a e)
+    rw (c .before .before .before .length .ensures) (next _ _ _ _ _ _ _ _ (p .before .before .before .before .before .loop .inv) (omega arith) _ (p .before .before .before .slot .ensures .is) d a e)
 
 refused-requires-2 : tie.Need-refused-requires-2 Inv-loop μ-loop
 refused-requires-2 c κs = search needs
@@ -120,16 +120,16 @@ returns-3 c =
     let p = c .before .before .before in
     let d = sym (p .before .dd .ensures) ∙ not-false _ (p .if1 .left) in
     let a = sym (c .before .before .slot-ok .ensures) ∙ c .before .if2 .left in
-    rw (at-wrong _ _ _ _ _ _ _ (p .before .before .before .before .before .loop .inv) (omega arith) _ (p .before .before .before .slot .ensures .is) d a) (c .refused2 .ensures)
+    rw (at-wrong _ _ _ _ _ _ _ _ (p .before .before .before .before .before .loop .inv) (omega arith) _ (p .before .before .before .slot .ensures .is) d a) (c .refused2 .ensures)
 
 refused-requires-3 : tie.Need-refused-requires-3 Inv-loop μ-loop
 refused-requires-3 c κs = search needs
 
 returns-4 : tie.Need-returns-4 Inv-loop μ-loop
-returns-4 c = rw (at-end _ _ _ _ _ _ _ (c .before .before .loop .inv) (omega arith)) (c .refused3 .ensures)
+returns-4 c = rw (at-end _ _ _ _ _ _ _ _ (c .before .before .loop .inv) (omega arith)) (c .refused3 .ensures)
 
-pub scan-spec : {M : Type 1} → statement M
-scan-spec =
+pub posted-spec : {M : Type 1} → statement M
+posted-spec =
     tie.close
     (tie.spec
     Inv-loop

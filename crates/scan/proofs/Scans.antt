@@ -1,0 +1,162 @@
+-- What a scan sees: whole, exactly the first of the slots that make a packet as the device's rules have it; and what is told of each of them.
+-- Assumes nothing.
+use Prim.Native.Nat.{ℕ, suc, _+_, _≤_, _<_}
+use mathlib.Core.Path.{_≡_, refl, ap, _∙_}
+use mathlib.Core.Logic.{_⊎_, inl, inr}
+use mathlib.Core.Bool.{Bool, true, false, not, cond}
+use mathlib.Core.List.{List, [], _∷_, _++_, map}
+use native.Mathlib.Omega.{arith}
+use lib.ListN.{length, getD, take, length-map, List·getD-eq-default}
+use Rattle.rules.specs.Rules.{answerOf}
+use Rattle.rules.proofs.Tests.{both}
+use Rattle.ring.specs.declared.Queue.{Queue}
+use Rattle.ring.specs.Slots.{run}
+use Rattle.ring.specs.Queue.{slotOf}
+use Rattle.ring.proofs.Runs.{length-run, getD-run, run-take}
+use Rattle.writeback.specs.WriteBack.{dd, eop, familyOf, writeBackOf}
+use Rattle.scan.specs.Slots.{Slot, slotIn, postedSlots}
+use Rattle.scan.specs.Scan.{packetSlots, lengthOk, endOk, allowed, writable, Complete, ends, goes, Look, refuse, whole, andThen, scan, slotChecks}
+use Rattle.scan.specs.Packet.{sum, padded, lastWords, packetOf, noPacket}
+use Rattle.scan.proofs.Packets.{padded-at, map-at}
+use Rattle.scan.proofs.Walk.{allowed-last, allowed-on, not-fifth}
+
+module _ (buffer k : ℕ) (s : Slot) where
+  parts : writable buffer k (s .words) ≡ true → (dd (s .words) ≡ true) × (allowed buffer k (s .words) ≡ true)
+  unfolding writable
+  parts w = both (dd (s .words)) (allowed buffer k (s .words)) w
+
+  joined : dd (s .words) ≡ true → lengthOk buffer k (s .words) ≡ true → endOk k (s .words) ≡ true → writable buffer k (s .words) ≡ true
+  unfolding writable
+  joined d l e = rw (d, l, e)
+
+module _ (buffer : ℕ) where
+  -- a packet has a slot, and at most five
+  pub has-some : (k : ℕ) (p : List Slot) → Complete buffer k p → 1 ≤ length p
+  has-some k (s ∷ []) (ends w e) = omega arith
+  has-some k (s ∷ p) (goes w e c) = omega arith
+
+  pub has-few : (k : ℕ) (p : List Slot) → k < packetSlots → Complete buffer k p → k + length p ≤ packetSlots
+  has-few k (s ∷ []) h (ends w e) = omega arith
+  has-few k (s ∷ p) h (goes w e c) =
+      omega (arith, has-few (suc k) p (not-fifth buffer k s (parts buffer k s w .1) e) c)
+
+  -- a scan of slots that begin with a packet sees it whole
+  pub is-seen : (k : ℕ) (p rest : List Slot) → Complete buffer k p → scan buffer k (p ++ rest) ≡ whole p
+  unfolding andThen
+  is-seen k (s ∷ []) rest (ends w e) = let b = parts buffer k s w in allowed-last buffer k s rest (b .0) (b .1) e
+  is-seen k (s ∷ p) rest (goes w e c) =
+      let b = parts buffer k s w in
+      allowed-on buffer k s (p ++ rest) (b .0) (b .1) e ∙ rw (is-seen (suc k) p rest c)
+
+-- a packet, and the slots after it
+pub record Begins (buffer k : ℕ) (slots p : List Slot) : Type 0 where
+  pub complete : Complete buffer k p
+  pub rest : List Slot
+  pub are : slots ≡ p ++ rest
+
+-- and what a scan sees whole is a packet that the slots begin with
+pub seen-is : (buffer k : ℕ) (slots p : List Slot) → scan buffer k slots ≡ whole p → Begins buffer k slots p
+unfolding scan andThen
+seen-is buffer k [] p h = let z : _≡_ {A = ℕ} 0 1 = cc in absurd (omega arith)
+seen-is buffer k (s ∷ rest) p h =
+    go (dd (s .words)) (lengthOk buffer k (s .words)) (endOk k (s .words)) (eop (s .words)) (scan buffer (suc k) rest) refl refl refl refl h (λ p′. seen-is buffer (suc k) rest p′)
+  where
+    onward : (l : Look) → andThen s l ≡ whole p → writable buffer k (s .words) ≡ true → eop (s .words) ≡ false
+        → ((p′ : List Slot) → l ≡ whole p′ → Begins buffer (suc k) rest p′) → Begins buffer k (s ∷ rest) p
+    onward (refuse n) h w e r = let z : _≡_ {A = ℕ} 0 1 = cc in absurd (omega arith)
+    onward (whole p′) h w e r =
+        let b = r p′ refl in
+        let q : s ∷ p′ ≡ p = cc in
+        rw (← q) (record { complete = goes w e (b .complete); rest = b .rest; are = ap (λ (x : List Slot). s ∷ x) (b .are) })
+
+    go : (d l n e : Bool) (f : Look) → dd (s .words) ≡ d → lengthOk buffer k (s .words) ≡ l → endOk k (s .words) ≡ n → eop (s .words) ≡ e
+        → cond (not d) (refuse 4) (cond (not l) (refuse 5) (cond (not n) (refuse 5) (cond e (whole (s ∷ [])) (andThen s f)))) ≡ whole p
+        → ((p′ : List Slot) → f ≡ whole p′ → Begins buffer (suc k) rest p′) → Begins buffer k (s ∷ rest) p
+    go false l n e f hd hl hn he h r = let z : _≡_ {A = ℕ} 0 1 = cc in absurd (omega arith)
+    go true false n e f hd hl hn he h r = let z : _≡_ {A = ℕ} 0 1 = cc in absurd (omega arith)
+    go true true false e f hd hl hn he h r = let z : _≡_ {A = ℕ} 0 1 = cc in absurd (omega arith)
+    go true true true true f hd hl hn he h r =
+        let q : s ∷ [] ≡ p = cc in
+        rw (← q) (record { complete = ends (joined buffer k s hd hl hn) he; rest = rest; are = refl })
+    go true true true false f hd hl hn he h r = onward f h (joined buffer k s hd hl hn) he r
+
+-- a scan refuses with 4 or 5
+pub refused-with : (buffer k : ℕ) (slots : List Slot) (n : ℕ) → scan buffer k slots ≡ refuse n → (n ≡ 4) ⊎ (n ≡ 5)
+unfolding scan andThen
+refused-with buffer k [] n h = inl (cc)
+refused-with buffer k (s ∷ rest) n h =
+    go (dd (s .words)) (lengthOk buffer k (s .words)) (endOk k (s .words)) (eop (s .words)) (scan buffer (suc k) rest) h (λ m. refused-with buffer (suc k) rest m)
+  where
+    go : (d l e o : Bool) (f : Look)
+        → cond (not d) (refuse 4) (cond (not l) (refuse 5) (cond (not e) (refuse 5) (cond o (whole (s ∷ [])) (andThen s f)))) ≡ refuse n
+        → ((m : ℕ) → f ≡ refuse m → (m ≡ 4) ⊎ (m ≡ 5)) → (n ≡ 4) ⊎ (n ≡ 5)
+    go false l e o f h r = inl (cc)
+    go true false e o f h r = inr (cc)
+    go true true false o f h r = inr (cc)
+    go true true true true f h r = let z : _≡_ {A = ℕ} 0 1 = cc in absurd (omega arith)
+    go true true true false (refuse m) h r = let e : m ≡ n = cc in rw (← e) (r m refl)
+    go true true true false (whole p) h r = let z : _≡_ {A = ℕ} 0 1 = cc in absurd (omega arith)
+
+-- the packet of no slots is zeros throughout
+pub no-slots : packetOf [] ≡ noPacket
+unfolding packetOf padded sum lastWords writeBackOf familyOf
+no-slots = refl
+
+-- the number of what a scan sees
+abbrev pub numberOf : Look → ℕ
+numberOf (refuse n) = n
+numberOf (whole p) = 0
+
+number-then : (s : Slot) (l : Look) → numberOf (andThen s l) ≡ numberOf l
+unfolding andThen
+number-then s (refuse n) = refl
+number-then s (whole p) = refl
+
+pub scan-answer : (buffer k : ℕ) (slots : List Slot) → numberOf (scan buffer k slots) ≡ answerOf (slotChecks buffer k slots)
+unfolding scan slotChecks
+scan-answer buffer k [] = refl
+scan-answer buffer k (s ∷ rest) =
+    go (not (dd (s .words))) (not (lengthOk buffer k (s .words))) (not (endOk k (s .words))) (eop (s .words)) (scan-answer buffer (suc k) rest)
+  where
+    go : (d l e o : Bool) → numberOf (scan buffer (suc k) rest) ≡ answerOf (slotChecks buffer (suc k) rest)
+        → numberOf (cond d (refuse 4) (cond l (refuse 5) (cond e (refuse 5) (cond o (whole (s ∷ [])) (andThen s (scan buffer (suc k) rest))))))
+        ≡ cond d 4 (cond l 5 (cond e 5 (cond o 0 (answerOf (slotChecks buffer (suc k) rest)))))
+    go true l e o r = refl
+    go false true e o r = refl
+    go false false true o r = refl
+    go false false false true r = refl
+    go false false false false r = number-then s (scan buffer (suc k) rest) ∙ r
+
+module _ (q : Queue) (ring list : List ℕ) where
+  abbrev slots : List Slot
+  slots = postedSlots q ring list
+
+  pub slots-long : length slots ≡ q .posted
+  unfolding postedSlots
+  slots-long = length-run (slotIn ring list) (q .size) (q .head) (q .posted)
+
+  module _ (f : Slot → ℕ) (n : ℕ) (few : n ≤ packetSlots) (within : n ≤ q .posted) (i : ℕ) where
+    abbrev told : List ℕ
+    told = map f (take n slots)
+
+    told-long : length told ≡ n
+    unfolding postedSlots
+    told-long =
+        length-map (take n slots) f
+        ∙ ap length (run-take (slotIn ring list) (q .size) (q .head) n (q .posted) within)
+        ∙ length-run (slotIn ring list) (q .size) (q .head) n
+
+    padded-told : getD (padded told) i 0 ≡ getD told i 0
+    padded-told = padded-at told i (rw told-long few)
+
+    pub place-at : i < n → getD (padded told) i 0 ≡ f (slotIn ring list (slotOf q i))
+    unfolding postedSlots
+    place-at h =
+        let at : ℕ → Slot = slotIn ring list in
+        padded-told
+        ∙ ap (λ (p : List Slot). getD (map f p) i 0) (run-take at (q .size) (q .head) n (q .posted) within)
+        ∙ map-at f (run at (q .size) (q .head) n) i (at 0) (rw length-run h)
+        ∙ ap f (getD-run at (q .size) (q .head) n i (at 0) h)
+
+    pub place-past : n ≤ i → getD (padded told) i 0 ≡ 0
+    place-past h = padded-told ∙ List·getD-eq-default told 0 {n = i} (rw told-long h)

@@ -1,0 +1,118 @@
+// The posted slots of a receive ring, from head upward, until one completes the packet or refuses.
+ghost use mathlib.Core.Path.{_≡_};
+ghost use Prim.Native.Nat.{_<_};
+ghost use lib.ListN.{length};
+ghost use Rattle.ring.specs.Sizes.{mostSize};
+ghost use Rattle.ring.specs.Queue.{advanced};
+ghost use Rattle.ring.specs.Steps.{Advance};
+ghost use Rattle.scan.specs.Slots.{postedSlots};
+ghost use Rattle.scan.specs.Scan.{Look, allowed, scan};
+ghost use Rattle.scan.specs.Packet.{seenBy};
+ghost use Rattle.scan.specs.Steps.{Lent};
+use ring::Queue;
+use writeback::WriteBack;
+
+// A packet is 1 to 5 slots.
+const PACKET_SLOTS: usize = 5;
+
+// A packet handed up: places past its slots are 0, and the fields are those of its last slot.
+pub struct Packet {
+    pub count: usize,
+    pub total: usize,
+    pub addresses: [u64; PACKET_SLOTS],
+    pub lengths: [usize; PACKET_SLOTS],
+    pub last: WriteBack,
+}
+
+// What a scan gives: the answer, the record's shared part after it and the packet.
+pub struct Seen {
+    pub answer: u8,
+    pub queue: Queue,
+    pub packet: Packet,
+}
+
+// What the device's rules allow in a slot with k slots of its packet before it.
+fn slot_ok(buffer: usize, k: usize, word1: u64) -> bool
+    requires { ⌜ k < mostSize ⌝ }
+    ensures { λ r. ⌜ r ≡ allowed buffer k (record { word0 = 0; word1 = word1 }) ⌝ }
+{
+    let length = writeback::length(word1);
+    let last = writeback::eop(word1);
+    ((length <= buffer) & ((1 <= length) | (last & (1 <= k)))) & (last | (k + 1 < PACKET_SLOTS))
+}
+
+// A refusal: the record as it came, and zeros.
+pub fn refused(queue: Queue, answer: u8) -> Seen
+    ensures { λ r. ⌜ r ≡ seenBy (Look.refuse answer) queue ⌝ }
+{
+    let last = writeback::read(0, 0);
+    Seen {
+        answer,
+        queue,
+        packet: Packet {
+            count: 0,
+            total: 0,
+            addresses: [0; PACKET_SLOTS],
+            lengths: [0; PACKET_SLOTS],
+            last,
+        },
+    }
+}
+
+// A packet handed up, and the record without its slots.
+fn handed(queue: Queue, packet: Packet) -> Seen
+    requires { ⌜ Advance queue (packet .count) ⌝ }
+    ensures { λ r. ⌜ r ≡ record { answer = 0; queue = advanced queue (packet .count); packet = packet } ⌝ }
+{
+    let count = packet.count;
+    Seen {
+        answer: 0,
+        queue: queue.advanced(count),
+        packet,
+    }
+}
+
+// Answers 4 or 5 at the first slot that asks for it, or 0 with the packet.
+pub fn posted(queue: Queue, buffer: usize, ring: &[u64], list: &[u64]) -> Seen
+    requires { ⌜ Lent queue (length (now ring)) (length (now list)) ⌝ }
+    ensures { λ r. ⌜ r ≡ seenBy (scan buffer 0 (postedSlots queue (now (ring .entry)) (now (list .entry)))) queue ⌝ }
+{
+    let size = queue.size;
+    let head = queue.head;
+    let posted = queue.posted;
+    let mut addresses = [0u64; PACKET_SLOTS];
+    let mut lengths = [0usize; PACKET_SLOTS];
+    let mut total: usize = 0;
+    let mut k: usize = 0;
+    while k < posted {
+        let at = ring::slot(head, size, k);
+        let first = 2 * at;
+        let word1 = ring[first + 1];
+        if !writeback::dd(word1) {
+            return refused(queue, 4);
+        }
+        if slot_ok(buffer, k, word1) {
+            let length = writeback::length(word1);
+            addresses[k] = list[at];
+            lengths[k] = length;
+            total += length;
+            k += 1;
+            if writeback::eop(word1) {
+                let last = writeback::read(ring[first], word1);
+                return handed(
+                    queue,
+                    Packet {
+                        count: k,
+                        total,
+                        addresses,
+                        lengths,
+                        last,
+                    },
+                );
+            }
+        } else {
+            return refused(queue, 5);
+        }
+    }
+    refused(queue, 4)
+}
