@@ -1,11 +1,11 @@
 // One number over all that a take hands up. A part of the program `rounds`: what it prints is compared.
+use family::family_number;
 use measure::checksum::byte;
 use measure::checksum::mix;
 use measure::checksum::number;
 use receive::Taken;
 use scan::Packet;
 use writeback::WriteBack;
-use writeback::family_number;
 
 fn half(sum: u64, x: u16) -> u64 {
     mix(sum, x as u64)

@@ -2,7 +2,8 @@
 -- Assumes nothing.
 use mathlib.Core.Path.{refl}
 use Rattle.rules.specs.Rules.{allBelow}
-use Rattle.writeback.specs.WriteBack.{familyOf, writeBackOf}
+use Rattle.family.specs.Types.{familyOf}
+use Rattle.writeback.specs.WriteBack.{writeBackOf}
 use Rattle.ring.specs.Slots.{run}
 use Rattle.ring.specs.Queue.{askedOf}
 use Rattle.receive.specs.Queue as rx

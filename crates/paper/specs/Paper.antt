@@ -6,7 +6,7 @@ use mathlib.Core.Path.{_≡_}
 use mathlib.Core.Bool.{Bool, true, false}
 use mathlib.Core.List.{List, [], _∷_}
 use lib.ListN.{length, getD, set, replicate}
-use Rattle.writeback.specs.declared.Family.the-variants.{Ipv4}
+use Rattle.family.specs.declared.Family.the-variants.{Ipv4}
 use Rattle.writeback.specs.WriteBack.{writeBackOf}
 use Rattle.receive.specs.declared.RxQueue.{RxQueue}
 use Rattle.receive.specs.declared.Taken.{Taken}

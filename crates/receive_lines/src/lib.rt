@@ -1,6 +1,7 @@
 // The lines of a script that are for the receive queue: its record, and how much of its memory is lent. A part of the program `probe`:
 // what it prints is compared.
 use command::Command;
+use family::family_number;
 use receive::Posted;
 use receive::RxQueue;
 use receive::Taken;
@@ -17,7 +18,6 @@ use script::no_row;
 use script::poke;
 use script::row_of;
 use sum::sum_of;
-use writeback::family_number;
 
 pub struct Rx {
     queue: RxQueue,

@@ -13,7 +13,8 @@ use Rattle.ring.specs.declared.Queue.{Queue}
 use Rattle.ring.specs.Slots.{run}
 use Rattle.ring.specs.Queue.{slotOf}
 use Rattle.ring.proofs.Runs.{length-run, getD-run, run-take}
-use Rattle.writeback.specs.WriteBack.{dd, eop, familyOf, writeBackOf}
+use Rattle.family.specs.Types.{familyOf}
+use Rattle.writeback.specs.WriteBack.{dd, eop, writeBackOf}
 use Rattle.scan.specs.Slots.{Slot, slotIn, postedSlots}
 use Rattle.scan.specs.Scan.{packetSlots, lengthOk, endOk, allowed, writable, Complete, ends, goes, Look, refuse, whole, andThen, scan, slotChecks}
 use Rattle.scan.specs.Packet.{sum, padded, lastWords, packetOf, noPacket}

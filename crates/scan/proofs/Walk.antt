@@ -15,7 +15,7 @@ use Rattle.ring.specs.declared.Queue.{Queue}
 use Rattle.ring.specs.Slots.{run}
 use Rattle.ring.specs.Queue.{slotOf, advanced}
 use Rattle.ring.proofs.Runs.{length-run, run-snoc}
-use Rattle.writeback.specs.Places.{lengthPlace}
+use Rattle.places.specs.Places.{lengthPlace}
 use Rattle.writeback.specs.WriteBack.{Words, dd, eop, lengthOf, writeBackOf}
 use Rattle.scan.specs.Slots.{Slot, slotIn, postedSlots}
 use Rattle.scan.specs.Scan.{packetSlots, lengthOk, endOk, allowed, Look, refuse, whole, andThen, scan}

@@ -36,8 +36,8 @@ fn slot_ok(buffer: usize, k: usize, word1: u64) -> bool
     requires { ⌜ k < mostSize ⌝ }
     ensures { λ r. ⌜ r ≡ allowed buffer k (record { word0 = 0; word1 = word1 }) ⌝ }
 {
-    let length = writeback::length(word1);
-    let last = writeback::eop(word1);
+    let length = places::length(word1);
+    let last = places::eop(word1);
     ((length <= buffer) & ((1 <= length) | (last & (1 <= k)))) & (last | (k + 1 < PACKET_SLOTS))
 }
 
@@ -88,16 +88,16 @@ pub fn posted(queue: Queue, buffer: usize, ring: &[u64], list: &[u64]) -> Seen
         let at = ring::slot(head, size, k);
         let first = 2 * at;
         let word1 = ring[first + 1];
-        if !writeback::dd(word1) {
+        if !places::dd(word1) {
             return refused(queue, 4);
         }
         if slot_ok(buffer, k, word1) {
-            let length = writeback::length(word1);
+            let length = places::length(word1);
             addresses[k] = list[at];
             lengths[k] = length;
             total += length;
             k += 1;
-            if writeback::eop(word1) {
+            if places::eop(word1) {
                 let last = writeback::read(ring[first], word1);
                 return handed(
                     queue,

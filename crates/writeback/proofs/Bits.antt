@@ -12,7 +12,7 @@ use lib.ListN.{length, set}
 use mir.Facts.{and-yes, or-yes}
 use Rattle.field.specs.Field.{replaced, Part, nth, rising, apart, free}
 use Rattle.field.proofs.Laws.{replaced-same, replaced-apart}
-use Rattle.writeback.specs.Places.{places0, places1}
+use Rattle.places.specs.Places.{places0, places1}
 use Rattle.writeback.specs.WriteBack.{Words, writeBackOf}
 use Rattle.writeback.specs.Bits.{readsAt, putAt, made}
 

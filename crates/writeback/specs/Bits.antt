@@ -6,8 +6,8 @@ use mathlib.Core.List.{List, map}
 use lib.Dec.{eqb}
 use lib.ListN.{getD}
 use Rattle.field.specs.Field.{fieldOf, Part, nth, replaced}
+use Rattle.family.specs.Types.{familyOf}
 use Rattle.writeback.specs.declared.WriteBack.{WriteBack}
-use Rattle.writeback.specs.WriteBack.{familyOf}
 
 -- the numbers that a word has at its places
 abbrev pub readsAt : List Part → ℕ → List ℕ

@@ -1,14 +1,13 @@
 -- A received slot's two words as the device wrote them (01, "Receiving"; Intel's Section 2.1.2.2 and Table 2-4).
 -- Assumes nothing.
 use Prim.Native.Nat.{ℕ}
-use mathlib.Core.Bool.{Bool, false, _||_, cond}
+use mathlib.Core.Bool.{Bool, false, cond}
 use lib.Dec.{eqb}
-use Rattle.rules.specs.Rules.{within}
 use Rattle.field.specs.Field.{readAt, isSet}
-use Rattle.writeback.specs.declared.Family.{Family}
-use Rattle.writeback.specs.declared.Family.the-variants.{Unknown, Mac, Arp, Ipv4, Ipv6}
+use Rattle.family.specs.declared.Family.the-variants.{Unknown}
+use Rattle.family.specs.Types.{familyOf}
 use Rattle.writeback.specs.declared.WriteBack.{WriteBack}
-use Rattle.writeback.specs.Places.{l2tag1Place, filterPlace, ddPlace, eopPlace, l2tag1pPlace, l3l4pPlace, crcpPlace, umbcastPlace, fltstatPlace, lpbkPlace, ipv6exaddPlace, intUdp0Place, ipePlace, l4ePlace, oversizePlace, ptypePlace, lengthPlace}
+use Rattle.places.specs.Places.{l2tag1Place, filterPlace, ddPlace, eopPlace, l2tag1pPlace, l3l4pPlace, crcpPlace, umbcastPlace, fltstatPlace, lpbkPlace, ipv6exaddPlace, intUdp0Place, ipePlace, l4ePlace, oversizePlace, ptypePlace, lengthPlace}
 
 -- the two words of a descriptor
 pub record Words : Type 0 where
@@ -24,23 +23,6 @@ eop x = isSet eopPlace (x .word1)
 
 abbrev pub lengthOf : Words → ℕ
 lengthOf x = readAt lengthPlace (x .word1)
-
--- the family of a packet type number
-unfoldable pub familyOf : ℕ → Family
-familyOf n =
-    cond (eqb n 1) Mac
-    (cond (eqb n 11) Arp
-    (cond (within 22 24 n || within 26 28 n) Ipv4
-    (cond (within 88 90 n || within 92 94 n) Ipv6
-    Unknown)))
-
--- a number for each family, 0 for unknown; the paper has none
-abbrev pub familyNumber : Family → ℕ
-familyNumber Unknown = 0
-familyNumber Mac = 1
-familyNumber Arp = 2
-familyNumber Ipv4 = 3
-familyNumber Ipv6 = 4
 
 -- the VLAN tag reads as 0 unless L2TAG1P is set, the hash as 0 unless FLTSTAT is 11b
 abbrev pub tagOf : Words → ℕ

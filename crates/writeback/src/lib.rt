@@ -1,17 +1,8 @@
 // The reader of one write-back: what the device wrote to a received slot, field for field.
 ghost use mathlib.Core.Path.{_≡_};
-ghost use Rattle.field.specs.Field.{readAt, isSet};
-ghost use Rattle.writeback.specs.Places.{ddPlace, eopPlace, lengthPlace};
-ghost use Rattle.writeback.specs.WriteBack.{familyOf, familyNumber, tagOf, hashOf, writeBackOf};
-
-// The family of a packet type number.
-pub enum Family {
-    Unknown,
-    Mac,
-    Arp,
-    Ipv4,
-    Ipv6,
-}
+ghost use Rattle.writeback.specs.WriteBack.{tagOf, hashOf, writeBackOf};
+use family::Family;
+use family::family_of;
 
 // The fields of a write-back. A tag or a hash that is not there reads as 0.
 pub struct WriteBack {
@@ -35,14 +26,10 @@ pub struct WriteBack {
     pub family: Family,
 }
 
-// Where each field begins: those of word 0, then those of word 1.
+// Where each field begins, but for DD, EOP and the length: those of word 0, then those of word 1.
 const L2TAG1: u64 = 16;
 
 const FILTER: u64 = 32;
-
-const DD: u64 = 0;
-
-const EOP: u64 = 1;
 
 const L2TAG1P: u64 = 2;
 
@@ -71,8 +58,6 @@ const OVERSIZE: u64 = ERROR + 6;
 
 const PTYPE: u64 = 30;
 
-const LENGTH: u64 = 38;
-
 // How many numbers a field of so many bits holds: reading it leaves the remainder.
 const ONE_BIT: u64 = 1 << 1;
 
@@ -80,56 +65,9 @@ const TWO_BITS: u64 = 1 << 2;
 
 const EIGHT_BITS: u64 = 1 << 8;
 
-const FOURTEEN_BITS: u64 = 1 << 14;
-
 const SIXTEEN_BITS: u64 = 1 << 16;
 
 const THIRTY_TWO_BITS: u64 = 1 << 32;
-
-// DD: the device is done with the slot.
-pub fn dd(word1: u64) -> bool
-    ensures { λ r. ⌜ r ≡ isSet ddPlace word1 ⌝ }
-{
-    (word1 >> DD) % ONE_BIT == 1
-}
-
-// EOP: the slot is the last of its packet.
-pub fn eop(word1: u64) -> bool
-    ensures { λ r. ⌜ r ≡ isSet eopPlace word1 ⌝ }
-{
-    (word1 >> EOP) % ONE_BIT == 1
-}
-
-pub fn length(word1: u64) -> usize
-    ensures { λ r. ⌜ r ≡ readAt lengthPlace word1 ⌝ }
-{
-    ((word1 >> LENGTH) % FOURTEEN_BITS) as usize
-}
-
-pub fn family_of(ptype: u8) -> Family
-    ensures { λ r. ⌜ r ≡ familyOf ptype ⌝ }
-{
-    match ptype {
-        1 => Family::Mac,
-        11 => Family::Arp,
-        22..=24 | 26..=28 => Family::Ipv4,
-        88..=90 | 92..=94 => Family::Ipv6,
-        _ => Family::Unknown,
-    }
-}
-
-// A number for each family, for those who print it.
-pub fn family_number(family: Family) -> u64
-    ensures { λ r. ⌜ r ≡ familyNumber family ⌝ }
-{
-    match family {
-        Family::Unknown => 0,
-        Family::Mac => 1,
-        Family::Arp => 2,
-        Family::Ipv4 => 3,
-        Family::Ipv6 => 4,
-    }
-}
 
 fn tag_of(word0: u64, word1: u64) -> u16
     ensures { λ r. ⌜ r ≡ tagOf (record { word0 = word0; word1 = word1 }) ⌝ }
@@ -161,8 +99,8 @@ pub fn read(word0: u64, word1: u64) -> WriteBack
     WriteBack {
         tag,
         hash,
-        dd: dd(word1),
-        eop: eop(word1),
+        dd: places::dd(word1),
+        eop: places::eop(word1),
         l2tag1p: (word1 >> L2TAG1P) % ONE_BIT == 1,
         l3l4p: (word1 >> L3L4P) % ONE_BIT == 1,
         crcp: (word1 >> CRCP) % ONE_BIT == 1,
@@ -175,7 +113,7 @@ pub fn read(word0: u64, word1: u64) -> WriteBack
         l4e: (word1 >> L4E) % ONE_BIT == 1,
         oversize: (word1 >> OVERSIZE) % ONE_BIT == 1,
         ptype,
-        length: length(word1),
+        length: places::length(word1),
         family,
     }
 }

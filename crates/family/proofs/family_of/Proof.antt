@@ -1,13 +1,13 @@
 -- `family_of` meets its contract: each arm of the match is a run of numbers of one family.
 -- Assumes nothing.
-use Rattle.writeback.proofs.Families.{in-run}
-use Rattle.writeback.specs.WriteBack.{familyOf}
-use Rattle.writeback.specs.declared.Family.the-variants.{Ipv4, Ipv6, Unknown}
+use Rattle.family.proofs.Families.{in-run}
+use Rattle.family.specs.Types.{familyOf}
+use Rattle.family.specs.declared.Family.the-variants.{Ipv4, Ipv6, Unknown}
 use mathlib.Core.Path.{refl}
 use native.Mathlib.Omega.{arith}
 use borrow.Author.Tests.{lt-leb, ne-eqb}
-use Rattle.writeback.proofs.family_of.Statement.{statement}
-use Rattle.writeback.proofs.family_of.Tie as tie
+use Rattle.family.proofs.family_of.Statement.{statement}
+use Rattle.family.proofs.family_of.Tie as tie
 
 returns : tie.Need-returns
 unfolding familyOf

@@ -9,9 +9,9 @@ use native.Mathlib.Omega.{arith}
 use borrow.Author.Tests.{eqb-true}
 use lib.Dec.{eqb}
 use Rattle.rules.proofs.Tests.{both}
-use Rattle.writeback.specs.declared.Family.{Family}
-use Rattle.writeback.specs.declared.Family.the-variants.{Mac, Arp, Ipv4, Ipv6, Unknown}
-use Rattle.writeback.specs.WriteBack.{familyOf, familyNumber}
+use Rattle.family.specs.declared.Family.{Family}
+use Rattle.family.specs.declared.Family.the-variants.{Mac, Arp, Ipv4, Ipv6, Unknown}
+use Rattle.family.specs.Types.{familyOf, familyNumber}
 
 abbrev ofNumber : ℕ → Family
 ofNumber n = cond (eqb n 0) Unknown (cond (eqb n 1) Mac (cond (eqb n 2) Arp (cond (eqb n 3) Ipv4 Ipv6)))
