@@ -47,6 +47,16 @@ toolchain() {
     [[ $found =~ $form ]] || fail "rt says that it is '$found', which is not of the form 'KIT logic NUMBER'"
     [ "${BASH_REMATCH[1]}" = "$logic" ] || fail "the toolchain is '$found', and toolchain.txt asks for '$wanted': this is another logic"
     [ "$found" = "$wanted" ] || echo "the kit is '${found%% *}' and not '${wanted%% *}'; its logic is the same, so the work goes on" >&2
+    keep_busy
+}
+
+# rt starts RT_JOBS checks, and waits for all of them before it starts more. With two for each processor none stands still while the longest of them ends.
+# A check needs up to 1 GB, so there are at most 8, unless RT_JOBS says so
+keep_busy() {
+    local processors
+    processors=$(nproc 2>/dev/null) || processors=1
+    [ -n "${RT_JOBS:-}" ] || RT_JOBS=$((processors < 4 ? 2 * processors : 8))
+    export RT_JOBS
 }
 
 # watched LOG COMMAND ..: runs rt with its whole output in LOG, and says as it goes which crate is proved, which edit refused and which program run; the
