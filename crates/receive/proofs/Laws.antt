@@ -12,8 +12,8 @@ use Rattle.rules.proofs.Tests.{both}
 use Rattle.rules.proofs.Checks.{passed}
 use Rattle.ring.specs.Sizes.{tailBits}
 use Rattle.ring.specs.Queue.{Shared, sharedOk}
+use Rattle.ring.specs.Steps.{Lent}
 use Rattle.ring.proofs.Record.{shared, tail-fits, asked-below}
-use Rattle.scan.specs.Steps.{Lent}
 use Rattle.receive.specs.declared.RxQueue.{RxQueue}
 use Rattle.receive.specs.Queue.{bufferOk, recordOk, lentOk, emptyQueue, freshOf, tailValueOf}
 use Rattle.receive.specs.Post.{postChecks, postAnswer}

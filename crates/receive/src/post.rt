@@ -1,9 +1,8 @@
 // Post: the answer first, then the slot at the tail.
 ghost use mathlib.Core.Path.{_≡_};
 ghost use lib.ListN.{length};
-ghost use Rattle.ring.specs.Steps.{Grow};
+ghost use Rattle.ring.specs.Steps.{Lent, Grow};
 ghost use Rattle.receive.specs.Post.{postAnswer, oneMore, PostedAs};
-ghost use Rattle.scan.specs.Steps.{Lent};
 ghost use Rattle.receive.specs.Steps.{PutAs};
 use crate::Posted;
 use crate::RxQueue;

@@ -1,6 +1,6 @@
 -- What the functions of this crate ask of a caller, and what they say of a slot number. No public contract cites these.
 -- Assumes nothing.
-use Prim.Native.Nat.{ℕ, _+_, _≤_, _<_}
+use Prim.Native.Nat.{ℕ, _+_, _*_, _≤_, _<_}
 use mathlib.Core.Path.{_≡_}
 use mathlib.Core.Bool.{Bool, true}
 use Rattle.ring.specs.declared.Queue.{Queue}
@@ -18,6 +18,12 @@ pub record SlotIs (head size k r : ℕ) : Type 0 where
   pub is : r ≡ slotAt head size k
   pub below : r < size
   pub small : size ≤ mostSlots
+
+-- what reading slots asks: a record that keeps the shared lines, a ring of two numbers a slot and a list of one
+pub record Lent (q : Queue) (ringLength listLength : ℕ) : Type 0 where
+  pub is : Shared q
+  pub ring-long : ringLength ≡ 2 * q .size
+  pub list-long : listLength ≡ q .size
 
 -- what moving on by n slots asks: they are posted
 pub record Advance (q : Queue) (n : ℕ) : Type 0 where

@@ -4,11 +4,10 @@ ghost use Prim.Native.Nat.{_<_};
 ghost use lib.ListN.{length};
 ghost use Rattle.ring.specs.Sizes.{mostSize};
 ghost use Rattle.ring.specs.Queue.{advanced};
-ghost use Rattle.ring.specs.Steps.{Advance};
+ghost use Rattle.ring.specs.Steps.{Lent, Advance};
 ghost use Rattle.scan.specs.Slots.{postedSlots};
 ghost use Rattle.scan.specs.Scan.{Look, allowed, scan};
 ghost use Rattle.scan.specs.Packet.{seenBy};
-ghost use Rattle.scan.specs.Steps.{Lent};
 use ring::Queue;
 use writeback::WriteBack;
 

@@ -23,13 +23,14 @@ use Rattle.request.specs.declared.Request.{Request}
 use Rattle.request.proofs.Slots.{slots-are}
 use Rattle.fill.specs.Descriptors.{descriptor}
 use Rattle.fill.proofs.Places.{two-words}
+use Rattle.done.specs.Marks.{countAt}
 use Rattle.transmit.specs.declared.TxQueue.{TxQueue}
 use Rattle.transmit.specs.declared.Fresh.{Fresh}
 use Rattle.transmit.specs.declared.Sent.{Sent}
 use Rattle.transmit.specs.declared.Reclaimed.{Reclaimed}
 use Rattle.transmit.specs.Queue.{recordOk, lentOk, movedTo, emptyQueue, freshOf}
 use Rattle.transmit.specs.Send.{slotsTaken, sendDone, sendRefused, answerTo, sendOf, ringAfter, tokensAfter, countsAfter, Unchanged, Stays}
-use Rattle.transmit.specs.Reclaim.{reclaimDone, reclaimRefused, countAt, tokenAt, reclaimAnswer, reclaimOf}
+use Rattle.transmit.specs.Reclaim.{reclaimDone, reclaimRefused, tokenAt, reclaimAnswer, reclaimOf}
 use Rattle.transmit.proofs.Laws.{lines, kept, lent-record, lent-same, sendable}
 
 -- ---- accepted again
@@ -77,7 +78,7 @@ module _ (q : TxQueue) (ok : recordOk q ≡ true) where
       answer = reclaimAnswer q ring tokens counts
 
       count : ℕ
-      count = countAt q counts
+      count = countAt (q .shared) counts
 
       given : Bool → Reclaimed
       given b = cond b (reclaimDone q (tokenAt q tokens) count) (reclaimRefused q answer)

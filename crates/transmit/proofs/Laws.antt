@@ -1,11 +1,11 @@
 -- What an accepted record, accepted lent slices, an accepted send and an accepted reclaim are, as facts.
 -- Assumes nothing.
 use Prim.Native.Nat.{ℕ, _*_, _^_, _≤_, _<_}
-use mathlib.Core.Path.{_≡_, refl}
-use mathlib.Core.Bool.{Bool, true, false, _&&_, _||_, true≢false}
+use mathlib.Core.Path.{_≡_}
+use mathlib.Core.Bool.{true, _&&_}
 use mathlib.Core.List.{List, [], _∷_}
 use native.Mathlib.Omega.{arith}
-use borrow.Author.Tests.{eqb-true, eqb-false, ltb-false, not-false}
+use borrow.Author.Tests.{eqb-true, ltb-false, not-false}
 use lib.Dec.{ltb, eqb}
 use lib.ListN.{length}
 use Rattle.rules.specs.Rules.{_when_, answerOf}
@@ -18,11 +18,12 @@ use Rattle.request.specs.declared.Request.{Request}
 use Rattle.packet.specs.Packet.{packetChecks}
 use Rattle.packet.specs.Accepted.{Accepted}
 use Rattle.packet.proofs.Accepted.{accepted}
+use Rattle.done.proofs.Laws.{Counted, counted}
 use Rattle.transmit.specs.declared.TxQueue.{TxQueue}
 use Rattle.transmit.specs.Queue.{leastFrame, mostFrame, frameOk, recordOk, lentOk, tailValueOf}
 use Rattle.transmit.specs.Steps.{Kept, Lent}
 use Rattle.transmit.specs.Send.{freeSlots, slotsTaken, sendChecks, sendAnswer}
-use Rattle.transmit.specs.Reclaim.{countAt, reclaimChecks, reclaimAnswer}
+use Rattle.transmit.specs.Reclaim.{reclaimChecks, reclaimAnswer}
 
 -- the two parts of the test
 pub lines : (q : TxQueue) → recordOk q ≡ true → (sharedOk (q .shared) ≡ true) × (frameOk (q .frame) ≡ true)
@@ -77,28 +78,14 @@ module _ (q : TxQueue) (ringLength tokensLength countsLength : ℕ) (addresses l
 
 -- ---- reclaim
 
-pub neither : (a b : Bool) → a || b ≡ false → (a ≡ false) × (b ≡ false)
-neither true b e = absurd (true≢false e)
-neither false b e = (refl, e)
-
--- a count that a packet of the posted slots can have
-pub record Counted (q : TxQueue) (counts : List ℕ) : Type 0 where
-  pub some : 1 ≤ countAt q counts
-  pub most : countAt q counts ≤ q .shared .posted
-
-pub counted : (q : TxQueue) (counts : List ℕ) → eqb (countAt q counts) 0 || ltb (q .shared .posted) (countAt q counts) ≡ false → Counted q counts
-counted q counts e =
-    let n = neither (eqb (countAt q counts) 0) (ltb (q .shared .posted) (countAt q counts)) e in
-    record { some = omega (arith, eqb-false (countAt q counts) 0 (n .0)); most = ltb-false _ _ (n .1) }
-
 module _ (q : TxQueue) (ring tokens counts : List ℕ) where
   pub record Reclaimable : Type 0 where
     pub lent-ok : lentOk q (length ring) (length tokens) (length counts) ≡ true
     pub lent-is : Lent q (length ring) (length tokens) (length counts)
-    pub count-is : Counted q counts
+    pub count-is : Counted (q .shared) counts
 
   pub reclaimable : reclaimAnswer q ring tokens counts ≡ 0 → Reclaimable
   unfolding reclaimAnswer
   reclaimable e =
       let p = passed (reclaimChecks q ring tokens counts) tt e in
-      record { lent-ok = not-false _ (p 0); lent-is = lent q _ _ _ (not-false _ (p 0)); count-is = counted q counts (p 2) }
+      record { lent-ok = not-false _ (p 0); lent-is = lent q _ _ _ (not-false _ (p 0)); count-is = counted (q .shared) counts (p 2) }

@@ -16,16 +16,17 @@ use Rattle.ring.specs.Queue.{slotOf, tailOf, grown}
 use Rattle.ring.proofs.Record.{tail-below}
 use Rattle.request.specs.declared.Request.{Request}
 use Rattle.request.proofs.Slots.{slots-are}
+use Rattle.done.specs.Marks.{isMarked, countAt}
 use Rattle.transmit.specs.declared.TxQueue.{TxQueue}
 use Rattle.transmit.specs.Queue.{lentOk, movedTo}
 use Rattle.transmit.specs.Send.{slotsTaken, answerTo, sendOf, tokensAfter, countsAfter}
-use Rattle.transmit.specs.Reclaim.{isMarked, reclaimDone, countAt, tokenAt, reclaimChecks, reclaimAnswer, reclaimOf}
+use Rattle.transmit.specs.Reclaim.{reclaimDone, tokenAt, reclaimChecks, reclaimAnswer, reclaimOf}
 use Rattle.transmit.proofs.Laws.{Sendable, sendable}
 use Rattle.transmit.proofs.Keeps.{ring-long, send-lends}
 
 -- a marked packet at head, its count right, is reclaimed
 module _ (q : TxQueue) (ring tokens counts : List ℕ) where
-  pub reclaims : (count token : ℕ) → countAt q counts ≡ count → tokenAt q tokens ≡ token
+  pub reclaims : (count token : ℕ) → countAt (q .shared) counts ≡ count → tokenAt q tokens ≡ token
       → lentOk q (length ring) (length tokens) (length counts) ≡ true → 1 ≤ count → count ≤ q .shared .posted → isMarked ring (slotOf (q .shared) (count - 1)) ≡ true
       → reclaimOf q ring tokens counts ≡ reclaimDone q token count
   unfolding reclaimOf reclaimAnswer

@@ -25,9 +25,9 @@ use Rattle.request.proofs.Slots.{slots-are}
 use Rattle.request.proofs.Back.{piece-back, segmentation-back, request-back}
 use Rattle.fill.specs.Descriptors.{isLast, pieceNumbers, contextNumbers, descriptor}
 use Rattle.fill.proofs.Places.{two-words, context-first, piece-at, slots-more}
+use Rattle.done.specs.Marks.{isMarked}
 use Rattle.transmit.specs.declared.TxQueue.{TxQueue}
 use Rattle.transmit.specs.Send.{answerTo, slotsTaken, ringAfter}
-use Rattle.transmit.specs.Reclaim.{isMarked}
 use Rattle.transmit.specs.ReadBack.{word0, word1, isContext, requestAt, pieceSlot, Says}
 use Rattle.transmit.proofs.Laws.{Sendable, sendable}
 

@@ -10,10 +10,11 @@ use borrow.Author.Tests.{eq-eqb, eqb-true}
 use lib.Dec.{eqb}
 use lib.ListN.{length}
 use Rattle.request.specs.declared.Request.{Request}
+use Rattle.done.specs.Marks.{countAt}
 use Rattle.transmit.specs.declared.TxQueue.{TxQueue}
 use Rattle.transmit.specs.declared.Reclaimed.{Reclaimed}
 use Rattle.transmit.specs.Send.{freeSlots, slotsTaken, sendAnswer}
-use Rattle.transmit.specs.Reclaim.{reclaimDone, reclaimRefused, countAt, tokenAt, reclaimAnswer, reclaimOf, Freed}
+use Rattle.transmit.specs.Reclaim.{reclaimDone, reclaimRefused, tokenAt, reclaimAnswer, reclaimOf, Freed}
 use Rattle.transmit.proofs.Laws.{lent-record, Reclaimable, reclaimable}
 use Rattle.transmit.proofs.Causes.{retry}
 use Rattle.transmit.proofs.Keeps.{reclaim-keeps}
@@ -27,7 +28,7 @@ module _ (q : TxQueue) (ring tokens counts : List ℕ) (done : reclaimOf q ring 
       answer = reclaimAnswer q ring tokens counts
 
       given : Bool → Reclaimed
-      given b = cond b (reclaimDone q (tokenAt q tokens) (countAt q counts)) (reclaimRefused q answer)
+      given b = cond b (reclaimDone q (tokenAt q tokens) (countAt (q .shared) counts)) (reclaimRefused q answer)
 
       go : (b : Bool) → eqb answer 0 ≡ b → given b .answer ≡ 0 → answer ≡ 0
       go true e z = eqb-true answer 0 e
@@ -36,14 +37,14 @@ module _ (q : TxQueue) (ring tokens counts : List ℕ) (done : reclaimOf q ring 
   facts : Reclaimable q ring tokens counts
   facts = reclaimable q ring tokens counts passes
 
-  is-done : reclaimOf q ring tokens counts ≡ reclaimDone q (tokenAt q tokens) (countAt q counts)
+  is-done : reclaimOf q ring tokens counts ≡ reclaimDone q (tokenAt q tokens) (countAt (q .shared) counts)
   unfolding reclaimOf
   is-done = rw (eq-eqb (reclaimAnswer q ring tokens counts) 0 passes)
 
   pub reclaim-frees : Freed q (reclaimOf q ring tokens counts)
   reclaim-frees =
-      let count : reclaimOf q ring tokens counts .count ≡ countAt q counts = ap (λ (r : Reclaimed). r .count) is-done in
-      let free : freeSlots (reclaimOf q ring tokens counts .queue) ≡ q .shared .size - 1 - (q .shared .posted - countAt q counts) = ap (λ (r : Reclaimed). freeSlots (r .queue)) is-done in
+      let count : reclaimOf q ring tokens counts .count ≡ countAt (q .shared) counts = ap (λ (r : Reclaimed). r .count) is-done in
+      let free : freeSlots (reclaimOf q ring tokens counts .queue) ≡ q .shared .size - 1 - (q .shared .posted - countAt (q .shared) counts) = ap (λ (r : Reclaimed). freeSlots (r .queue)) is-done in
       record {
         accepted = reclaim-keeps q (lent-record q (length ring) (length tokens) (length counts) (facts .lent-ok)) ring tokens counts;
         size-same = ap (λ (r : Reclaimed). r .queue .shared .size) is-done;

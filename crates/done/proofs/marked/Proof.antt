@@ -1,9 +1,9 @@
--- `transmit::marked` meets its contract: the mask is 2 ^ 4 - 1.
+-- `marked` meets its contract: the mask is 2 ^ 4 - 1.
 -- Assumes nothing.
 use native.Mathlib.Nat.{div-one}
 use lib.Bits.{and-mask}
-use Rattle.transmit.proofs.reclaim.marked.Statement.{statement}
-use Rattle.transmit.proofs.reclaim.marked.Tie as tie
+use Rattle.done.proofs.marked.Statement.{statement}
+use Rattle.done.proofs.marked.Tie as tie
 
 returns : tie.Need-returns
 returns c = rw (and-mask (c .args .word) 4, div-one)
