@@ -19,8 +19,8 @@ fn put(name: &[u8], row: Row, out: &mut [u8; PRINTED], next: usize) -> usize {
 }
 
 fn first_word(line: Line, text: &[u8]) -> &[u8] {
-    let words = feed::part(text, line.from, line.to);
-    feed::first(words, word_end(words, 0))
+    let words = parts::part(text, line.from, line.to);
+    parts::first(words, word_end(words, 0))
 }
 
 // The answer to a line; one that is of no form is answered by its number in the script.

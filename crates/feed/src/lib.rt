@@ -2,8 +2,6 @@
 ghost use mathlib.Core.Path.{_≡_};
 ghost use mathlib.Core.Bool.{false};
 ghost use Prim.Native.Nat.{min};
-ghost use lib.ListN.{take};
-ghost use lib.Seq.{slice};
 ghost use Rattle.feed.specs.Feeding.{noLines, nextOf, lastOf, moreOf, RoomMade, MovedDown};
 
 // The part of the memory that is not read yet, and whether it goes on a line of which the beginning
@@ -24,30 +22,6 @@ pub struct Line {
     pub lines: Lines,
 }
 
-// The first bytes of a text, so many, or all that there are.
-pub fn first(text: &[u8], count: usize) -> &[u8]
-    ensures { λ r. ⌜ now r ≡ take count (now (text .entry)) ⌝ }
-{
-    if count < text.len() {
-        &text[..count]
-    } else {
-        text
-    }
-}
-
-// The bytes of a text from one place up to another, as far as there are any.
-pub fn part(text: &[u8], from: usize, to: usize) -> &[u8]
-    ensures { λ r. ⌜ now r ≡ slice from to (now (text .entry)) ⌝ }
-{
-    let held = first(text, to);
-    let long = held.len();
-    if from < long {
-        &held[from..]
-    } else {
-        &held[long..]
-    }
-}
-
 // Nothing is read, and nothing is there to read.
 pub fn no_lines() -> Lines
     ensures { λ r. ⌜ r ≡ noLines false ⌝ }
@@ -65,7 +39,7 @@ pub fn next_line(lines: Lines, text: &[u8]) -> Line
 {
     let start = lines.start;
     let end = lines.end;
-    let held = first(text, end);
+    let held = parts::first(text, end);
     let at = words::line_end(held, start);
     if at < held.len() {
         Line {

@@ -145,7 +145,7 @@ fn first_numbers(n: &[u64; NUMBERS]) -> Given {
 // A line that is neither empty nor a comment.
 fn read_words(words: &[u8], numbers: &mut [u64; NUMBERS]) -> Said {
     let end = word_end(words, 0);
-    let command = command_of(feed::first(words, end));
+    let command = command_of(parts::first(words, end));
     let read = numbers_behind(words, end, numbers);
     if read.ok {
         formed(command, first_numbers(numbers), read.count as u64)
@@ -168,7 +168,7 @@ pub fn hear(line: Line, text: &[u8], numbers: &mut [u64; NUMBERS]) -> Said {
         if line.long {
             nothing(true)
         } else {
-            read_line(feed::part(text, line.from, line.to), numbers)
+            read_line(parts::part(text, line.from, line.to), numbers)
         }
     } else {
         nothing(false)

@@ -6,7 +6,7 @@ use libc::STDOUT_FILENO;
 const ROOM: usize = 1024;
 
 pub(crate) fn write_out(out: &[u8], next: usize) {
-    io::write_all(STDOUT_FILENO, feed::first(out, next));
+    io::write_all(STDOUT_FILENO, parts::first(out, next));
 }
 
 // Writes out what is printed if there is no room for another answer.

@@ -1,11 +1,11 @@
--- `feed::part` meets its contract. Assumes nothing.
+-- `part` meets its contract. Assumes nothing.
 use Prim.Native.Nat.{_-_}
 use native.Mathlib.Omega.{arith}
 use lib.ListN.{length, drop, length-drop, drop-of-length-le}
 use lib.Seq.{take-all, take-nil}
 use borrow.Author.Needs.{needs}
-use Rattle.feed.proofs.part.Statement.{statement}
-use Rattle.feed.proofs.part.Tie as tie
+use Rattle.parts.proofs.part.Statement.{statement}
+use Rattle.parts.proofs.part.Tie as tie
 
 first-requires : tie.Need-first-requires
 first-requires c κs = search needs

@@ -1,10 +1,10 @@
--- `feed::first` meets its contract. Assumes nothing.
+-- `first` meets its contract. Assumes nothing.
 use mathlib.Core.Path.{sym}
 use native.Mathlib.Omega.{arith}
 use lib.Seq.{length-take-le, take-all}
 use borrow.Author.Needs.{needs}
-use Rattle.feed.proofs.first.Statement.{statement}
-use Rattle.feed.proofs.first.Tie as tie
+use Rattle.parts.proofs.first.Statement.{statement}
+use Rattle.parts.proofs.first.Tie as tie
 
 slice-aggregate-result : tie.Need-slice-aggregate-result
 slice-aggregate-result c = sym (length-take-le (c .before .before .args .count) (c .before .before .args .text .now) (omega arith))
