@@ -9,12 +9,13 @@ use lib.ListN.{length, take-append-drop, length-append, length-map}
 use lib.Seq.{drop-at, drop-length, drop-append-seam}
 use Rattle.ring.specs.Queue.{slotOf, tailOf}
 use Rattle.ring.proofs.Record.{tail-free}
-use Rattle.writeback.specs.WriteBack.{Words}
+use Rattle.places.specs.Words.{Words}
 use Rattle.receive.specs.declared.RxQueue.{RxQueue}
-use Rattle.scan.specs.declared.Packet.{Packet}
+use Rattle.receive.specs.declared.Packet.{Packet}
 use Rattle.scan.specs.Slots.{Slot}
-use Rattle.scan.specs.Packet.{packetOf, sum}
+use Rattle.scan.specs.Told.{sum}
 use Rattle.receive.proofs.Posts.{post-leaves}
+use Rattle.receive.specs.Take.{packetOf}
 use Rattle.history.specs.World.{World, Event, post, poll, write, takeAt, after, end, AllAllowed, Start}
 use Rattle.history.specs.History.{writeAt, writes, packets, written, completed, handedUp, returned, waiting}
 use Rattle.history.specs.Late.{lateFrom, late, callAt, calls}

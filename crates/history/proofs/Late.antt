@@ -14,11 +14,11 @@ use Rattle.ring.specs.Slots.{slotAt}
 use Rattle.ring.specs.Queue.{tailOf}
 use Rattle.ring.proofs.Steps.{apart}
 use Rattle.ring.proofs.Stores.{length-store, store-comm}
-use Rattle.writeback.specs.WriteBack.{Words}
+use Rattle.places.specs.Words.{Words}
 use Rattle.scan.specs.Slots.{Slot}
 use Rattle.receive.specs.Post.{postAnswer, blank, oneMore}
 use Rattle.scan.specs.Scan.{refuse, whole}
-use Rattle.scan.specs.Packet.{packetOf}
+use Rattle.receive.specs.Take.{packetOf}
 use Rattle.history.specs.World.{World, Event, post, poll, write, postAt, partAfter, after, reply, Allowed, end, replies, AllAllowed}
 use Rattle.history.specs.History.{filled, packets}
 use Rattle.history.specs.Late.{lateFrom, NoneLeft, JustBefore}

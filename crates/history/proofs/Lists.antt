@@ -7,7 +7,7 @@ use mathlib.Core.Logic.{_⊎_, inl, inr}
 use mathlib.Core.List.{List, [], _∷_, _++_, map, append-assoc}
 use lib.Dec.{T}
 use lib.ListN.{length}
-use Rattle.writeback.specs.WriteBack.{Words, dd, eop}
+use Rattle.places.specs.Words.{Words, dd, eop}
 use Rattle.scan.specs.Slots.{Slot}
 use Rattle.scan.specs.Scan.{lengthOk, endOk, writable, Look, refuse, whole, andThen, scan}
 use Rattle.history.specs.World.{partAfter}

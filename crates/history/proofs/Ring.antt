@@ -10,7 +10,7 @@ use lib.ListN.{length, getD, set}
 use Rattle.ring.specs.Slots.{slotAt, run}
 use Rattle.ring.proofs.Stores.{read-same, read-other}
 use Rattle.ring.proofs.Runs.{getD-run, run-inside}
-use Rattle.writeback.specs.WriteBack.{Words}
+use Rattle.places.specs.Words.{Words}
 use Rattle.scan.specs.Slots.{Slot, wordsOf, slotIn, storeWords}
 
 -- the two words of a slot as they are stored

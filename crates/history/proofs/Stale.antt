@@ -5,13 +5,12 @@ use mathlib.Core.Path.{_≡_, refl, sym, ap, _∙_}
 use mathlib.Core.List.{List, [], _∷_, _++_, map}
 use lib.ListN.{length, length-append, length-map}
 use lib.Seq.{take-at, take-append-seam}
-use Rattle.writeback.specs.WriteBack.{Words}
+use Rattle.places.specs.Words.{Words}
 use Rattle.receive.specs.declared.RxQueue.{RxQueue}
-use Rattle.scan.specs.declared.Packet.{Packet}
+use Rattle.receive.specs.declared.Packet.{Packet}
 use Rattle.scan.specs.Slots.{Slot}
 use Rattle.scan.specs.Scan.{Look, refuse, whole}
-use Rattle.scan.specs.Packet.{packetOf}
-use Rattle.receive.specs.Take.{look, takeOf}
+use Rattle.receive.specs.Take.{packetOf, look, takeOf}
 use Rattle.history.specs.World.{World, Event, post, poll, write, slotsIn, postAt, takeAt, after, reply, Allowed, end, replies, AllAllowed, Start}
 use Rattle.history.specs.History.{acceptedAt, accepted, writeAt, writes, packets, written, handedUp, waiting}
 use Rattle.history.specs.Demand.{nextOf}

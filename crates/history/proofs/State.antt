@@ -16,14 +16,13 @@ use Rattle.ring.specs.Slots.{slotAt, run}
 use Rattle.ring.specs.Queue.{Shared, tailOf}
 use Rattle.ring.proofs.Stores.{length-store}
 use Rattle.ring.proofs.Runs.{length-run, run-mod, run-drop}
-use Rattle.writeback.specs.WriteBack.{Words}
+use Rattle.places.specs.Words.{Words}
 use Rattle.receive.specs.declared.RxQueue.{RxQueue}
 use Rattle.receive.specs.Queue.{recordOk, lentOk, emptyQueue}
 use Rattle.scan.specs.Slots.{Slot, slotIn, storeWords, postedSlots}
 use Rattle.receive.specs.Post.{postAnswer, blank, oneMore}
 use Rattle.scan.specs.Scan.{writable, Look, refuse, whole}
-use Rattle.scan.specs.Packet.{packetOf, seenBy}
-use Rattle.receive.specs.Take.{look, advanced, takeBy, takeOf}
+use Rattle.receive.specs.Take.{packetOf, look, advanced, takeBy, takeOf}
 use Rattle.receive.proofs.Laws.{fresh-lines, fresh-queue, kept, done-room}
 use Rattle.receive.proofs.Posts.{post-adds}
 use Rattle.receive.proofs.Keeps.{one-more-ok, advanced-ok}
@@ -65,20 +64,20 @@ after-refused w a ne = rw (ne-eqb _ _ ne)
 
 module _ (w : World) (n : ℕ) (e : seen w ≡ refuse n) where
   pub after-none : after w poll ≡ w
-  unfolding after takeAt takeOf seen takeBy seenBy
+  unfolding after takeAt takeOf seen takeBy
   after-none = rw e
 
   pub take-none : takeAt w ≡ record { answer = n; queue = w .queue; packet = packetOf [] }
-  unfolding takeAt takeOf seen takeBy seenBy
+  unfolding takeAt takeOf seen takeBy
   take-none = rw e
 
 module _ (w : World) (p : List Slot) (e : seen w ≡ whole p) where
   pub after-some : after w poll ≡ moved w (length p)
-  unfolding after takeAt takeOf seen takeBy seenBy moved
+  unfolding after takeAt takeOf seen takeBy moved
   after-some = rw e
 
   pub take-some : takeAt w ≡ record { answer = 0; queue = advanced (w .queue) (length p); packet = packetOf p }
-  unfolding takeAt takeOf seen takeBy seenBy
+  unfolding takeAt takeOf seen takeBy
   take-some = rw e
 
 -- ---- an accepted record, and the slices' lengths

@@ -9,11 +9,10 @@ use lib.Dec.{eqb}
 use lib.ListN.{length, drop}
 use Rattle.ring.specs.Queue.{slotOf, isDevices}
 use Rattle.receive.specs.declared.RxQueue.{RxQueue}
-use Rattle.scan.specs.declared.Packet.{Packet}
+use Rattle.receive.specs.declared.Packet.{Packet}
 use Rattle.receive.specs.declared.Taken.{Taken}
 use Rattle.scan.specs.Slots.{Slot, slotIn}
-use Rattle.scan.specs.Packet.{packetOf}
-use Rattle.receive.specs.Take.{advanced}
+use Rattle.receive.specs.Take.{packetOf, advanced}
 use Rattle.history.specs.World.{World, Event, post, poll, Reply, posted, taken, slotsIn, postAt, takeAt, after, end, replies, AllAllowed}
 use Rattle.history.specs.History.{acceptedAt, accepted, writes, written, unwritten, completed, handedUp, returned, waiting}
 use Rattle.history.specs.Late.{late, calls, JustBefore}

@@ -7,10 +7,10 @@ use mathlib.Core.List.{List, [], _∷_, _++_, map}
 use lib.ListN.{length, take, replicate}
 use Rattle.ring.specs.Slots.{run}
 use Rattle.ring.specs.Queue.{tailOf}
-use Rattle.writeback.specs.WriteBack.{dd, eop}
+use Rattle.places.specs.Words.{dd, eop}
 use Rattle.receive.specs.Queue.{freshOf}
 use Rattle.scan.specs.Slots.{Slot}
-use Rattle.scan.specs.Packet.{packetOf}
+use Rattle.receive.specs.Take.{packetOf}
 use Rattle.history.specs.World.{World, Event, post, poll, write, Reply, posted, taken, postAt, takeAt, after, Allowed, end, replies, AllAllowed, Start}
 use Rattle.history.specs.History.{ifDone, completed, handedUp}
 use Rattle.history.specs.Late.{late}

@@ -5,11 +5,12 @@ use mathlib.Core.Bool.{cond}
 use mathlib.Core.List.{List, [], _∷_, _++_, map}
 use lib.Dec.{eqb}
 use lib.ListN.{length, drop}
-use Rattle.writeback.specs.WriteBack.{Words, eop}
-use Rattle.scan.specs.declared.Packet.{Packet}
+use Rattle.places.specs.Words.{Words, eop}
+use Rattle.receive.specs.declared.Packet.{Packet}
 use Rattle.scan.specs.Slots.{Slot}
 use Rattle.receive.specs.Post.{blank}
-use Rattle.scan.specs.Packet.{sum, packetOf}
+use Rattle.scan.specs.Told.{sum}
+use Rattle.receive.specs.Take.{packetOf}
 use Rattle.history.specs.World.{World, Event, post, poll, write, Reply, posted, taken, postAt, after, replies}
 
 -- what goes with an answer of 0

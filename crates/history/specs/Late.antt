@@ -3,7 +3,7 @@
 use mathlib.Core.Path.{_≡_}
 use mathlib.Core.List.{List, [], _∷_, _++_, map}
 use lib.ListN.{take, drop}
-use Rattle.writeback.specs.WriteBack.{Words}
+use Rattle.places.specs.Words.{Words}
 use Rattle.history.specs.World.{World, Event, post, poll, write, takeAt, after}
 
 -- `held` is what the device has not yet written of what it wrote in the history. It writes a packet that is handed up just before

@@ -5,7 +5,7 @@ use mathlib.Core.Path.{_≡_}
 use mathlib.Core.List.{List, [], _∷_, _++_, map}
 use lib.ListN.{length, take}
 use Rattle.scan.specs.Slots.{Slot}
-use Rattle.scan.specs.Packet.{packetOf}
+use Rattle.receive.specs.Take.{packetOf}
 use Rattle.history.specs.World.{World, Event, slotsIn, takeAt, end, replies, AllAllowed}
 use Rattle.history.specs.History.{accepted, writes, written, packets, completed, handedUp, returned}
 

@@ -8,7 +8,7 @@ use mathlib.Core.List.{List, [], _∷_, _++_}
 use lib.Dec.{T}
 use lib.ListN.{length}
 use Rattle.ring.specs.Queue.{tailOf}
-use Rattle.writeback.specs.WriteBack.{Words, eop}
+use Rattle.places.specs.Words.{Words, eop}
 use Rattle.receive.specs.declared.RxQueue.{RxQueue}
 use Rattle.receive.specs.declared.Posted.{Posted}
 use Rattle.receive.specs.declared.Taken.{Taken}

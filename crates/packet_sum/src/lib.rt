@@ -3,8 +3,8 @@ use family::family_number;
 use measure::checksum::byte;
 use measure::checksum::mix;
 use measure::checksum::number;
+use receive::Packet;
 use receive::Taken;
-use scan::Packet;
 use writeback::WriteBack;
 
 fn half(sum: u64, x: u16) -> u64 {

@@ -12,7 +12,6 @@ use Rattle.ring.specs.Sizes.{queueOk}
 use Rattle.ring.proofs.Record.{empty-ok}
 use Rattle.scan.specs.Slots.{postedSlots}
 use Rattle.scan.specs.Scan.{Look, refuse, whole, scan, slotChecks}
-use Rattle.scan.specs.Packet.{seenBy}
 use Rattle.scan.proofs.Scans.{numberOf, scan-answer}
 use Rattle.receive.specs.declared.RxQueue.{RxQueue}
 use Rattle.receive.specs.declared.Fresh.{Fresh}
@@ -46,7 +45,7 @@ module _ (q : RxQueue) (ring list : List ℕ) (address n : ℕ) where
 
 module _ (q : RxQueue) (ring list : List ℕ) where
   pub take-answer : takeOf q ring list .answer ≡ answerOf (takeChecks q ring list)
-  unfolding takeOf look takeBy seenBy
+  unfolding takeOf look takeBy
   take-answer = by (not (lentOk q (length ring) (length list)))
     where
       number : (l : Look) → takeBy l q .answer ≡ numberOf l

@@ -11,7 +11,6 @@ use Rattle.rules.proofs.Tests.{both}
 use Rattle.ring.specs.Queue.{sharedOk}
 use Rattle.ring.proofs.Record.{advanced-keeps, grown-keeps}
 use Rattle.scan.specs.Scan.{Look, refuse, whole}
-use Rattle.scan.specs.Packet.{seenBy}
 use Rattle.receive.specs.declared.RxQueue.{RxQueue}
 use Rattle.receive.specs.Queue.{bufferOk, recordOk, freshOf}
 use Rattle.receive.specs.Post.{oneMore, answerTo, postOf}
@@ -42,7 +41,7 @@ module _ (q : RxQueue) (ok : recordOk q ≡ true) where
       go false e = ok
 
   pub take-keeps : (ring list : List ℕ) → recordOk (takeOf q ring list .queue) ≡ true
-  unfolding takeOf takeBy seenBy
+  unfolding takeOf takeBy
   take-keeps ring list = go (look q ring list)
     where
       go : (l : Look) → recordOk (takeBy l q .queue) ≡ true

@@ -4,25 +4,39 @@ use Prim.Native.Nat.{ℕ, _+_}
 use mathlib.Core.Path.{_≡_, refl, ap, _∙_}
 use mathlib.Core.Logic.{_≢_, ⊎-elim}
 use mathlib.Core.Bool.{Bool, true, false, not, cond}
-use mathlib.Core.List.{List, _++_}
+use mathlib.Core.List.{List, [], _++_}
 use native.Mathlib.Omega.{arith}
 use lib.ListN.{length, take, length-append}
 use lib.Seq.{take-append-seam}
-use Rattle.writeback.specs.WriteBack.{lengthOf}
+use Rattle.family.specs.Types.{familyOf}
+use Rattle.places.specs.Words.{lengthOf}
+use Rattle.writeback.specs.WriteBack.{writeBackOf}
 use Rattle.scan.specs.Slots.{Slot, postedSlots}
 use Rattle.scan.specs.Scan.{Complete, Look, refuse, whole, scan}
-use Rattle.scan.specs.Packet.{padded, addressesOf, lengthsOf, packetOf, noPacket, seenBy}
-use Rattle.scan.proofs.Scans.{has-some, has-few, is-seen, seen-is, refused-with, no-slots, slots-long, place-at, place-past}
+use Rattle.scan.specs.Told.{sum, padded, addressesOf, lengthsOf, lastWords, seenOf, seenBy}
+use Rattle.scan.proofs.Scans.{has-some, has-few, is-seen, seen-is, refused-with, slots-long, place-at, place-past}
 use Rattle.receive.specs.declared.RxQueue.{RxQueue}
 use Rattle.receive.specs.declared.Taken.{Taken}
 use Rattle.receive.specs.Queue.{lentOk}
-use Rattle.receive.specs.Take.{look, advanced, takeBy, takeOf}
+use Rattle.receive.specs.Take.{look, packetOf, noPacket, advanced, takeBy, takeOf}
+use Rattle.receive.specs.Steps.{takenAs}
 use Rattle.receive.specs.Packets.{HandedUp, Told}
+
+-- what a scan gives, as take gives it
+pub as-taken : (l : Look) (q : RxQueue) → takenAs q (seenBy l (q .shared)) ≡ takeBy l q
+unfolding takeBy packetOf seenBy seenOf
+as-taken (refuse n) q = refl
+as-taken (whole p) q = refl
+
+-- the packet of no slots is zeros throughout
+pub no-slots : packetOf [] ≡ noPacket
+unfolding packetOf padded sum lastWords writeBackOf familyOf
+no-slots = refl
 
 module _ (q : RxQueue) (ring list : List ℕ) where
   -- a take that answers other than 0 returns the record as it came, and zeros
   pub take-refused : takeOf q ring list .answer ≢ 0 → takeOf q ring list ≡ record { answer = takeOf q ring list .answer; queue = q; packet = noPacket }
-  unfolding takeOf takeBy seenBy
+  unfolding takeOf takeBy
   take-refused ne = go (look q ring list) ne
     where
       go : (l : Look) → takeBy l q .answer ≢ 0 → takeBy l q ≡ record { answer = takeBy l q .answer; queue = q; packet = noPacket }
@@ -33,7 +47,7 @@ module _ (q : RxQueue) (ring list : List ℕ) where
   slots = postedSlots (q .shared) ring list
 
   by-scan : (p : List Slot) → lentOk q (length ring) (length list) ≡ true → scan (q .buffer) 0 slots ≡ whole p → HandedUp q ring list (takeBy (whole p) q)
-  unfolding takeBy seenBy packetOf
+  unfolding takeBy packetOf
   by-scan p a h =
       let b = seen-is (q .buffer) 0 slots p h in
       let few = has-few (q .buffer) 0 p (omega arith) (b .complete) in
@@ -50,7 +64,7 @@ module _ (q : RxQueue) (ring list : List ℕ) where
 
   by-look : (a : Bool) (l : Look) → lentOk q (length ring) (length list) ≡ a → scan (q .buffer) 0 slots ≡ l → takeBy (cond (not a) (refuse 1) l) q .answer ≡ 0
       → HandedUp q ring list (takeBy (cond (not a) (refuse 1) l) q)
-  unfolding takeBy seenBy
+  unfolding takeBy
   by-look false l e h z = let y : _≡_ {A = ℕ} 1 0 = z in absurd (omega arith)
   by-look true (refuse n) e h z = absurd (⊎-elim (λ f. omega arith) (λ f. omega arith) (refused-with (q .buffer) 0 slots n h))
   by-look true (whole p) e h z = by-scan p e h
@@ -63,7 +77,7 @@ module _ (q : RxQueue) (ring list : List ℕ) where
   -- and it hands up whenever the posted slots begin with a packet
   pub hands-up-if : (p rest : List Slot) → lentOk q (length ring) (length list) ≡ true → Complete (q .buffer) 0 p → postedSlots (q .shared) ring list ≡ p ++ rest
       → takeOf q ring list ≡ record { answer = 0; queue = advanced q (length p); packet = packetOf p }
-  unfolding takeOf look takeBy seenBy
+  unfolding takeOf look takeBy
   hands-up-if p rest a c e = rw (a, e, is-seen (q .buffer) 0 p rest c)
 
   pub tells : (t : Taken) → HandedUp q ring list t → Told q ring list t

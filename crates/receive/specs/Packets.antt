@@ -6,14 +6,14 @@ use mathlib.Core.Bool.{true}
 use mathlib.Core.List.{List}
 use lib.ListN.{length, getD, take}
 use Rattle.ring.specs.Queue.{slotOf}
-use Rattle.writeback.specs.WriteBack.{lengthOf}
+use Rattle.places.specs.Words.{lengthOf}
 use Rattle.scan.specs.Slots.{slotIn, postedSlots}
 use Rattle.scan.specs.Scan.{packetSlots, Complete}
-use Rattle.scan.specs.Packet.{sum, lengthsOf, packetOf}
+use Rattle.scan.specs.Told.{sum, lengthsOf}
 use Rattle.receive.specs.declared.RxQueue.{RxQueue}
 use Rattle.receive.specs.declared.Taken.{Taken}
 use Rattle.receive.specs.Queue.{lentOk}
-use Rattle.receive.specs.Take.{advanced}
+use Rattle.receive.specs.Take.{packetOf, advanced}
 
 module _ (q : RxQueue) (ring list : List ℕ) (t : Taken) where
   -- answer 0: a packet of one to five slots, which are the first posted ones

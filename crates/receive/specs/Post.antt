@@ -9,7 +9,7 @@ use lib.ListN.{length, set}
 use Rattle.rules.specs.Rules.{Check, _when_, answerOf}
 use Rattle.rules.specs.Address.{addressWrong}
 use Rattle.ring.specs.Queue.{tailOf, grown}
-use Rattle.writeback.specs.WriteBack.{Words}
+use Rattle.places.specs.Words.{Words}
 use Rattle.scan.specs.Slots.{storeWords}
 use Rattle.receive.specs.declared.RxQueue.{RxQueue}
 use Rattle.receive.specs.declared.Posted.{Posted}

@@ -1,6 +1,7 @@
 // The receive queue of the driver core: fresh queues and the tail (queue), post, take.
 use ring::Queue;
-use scan::Packet;
+use scan::PACKET_SLOTS;
+use writeback::WriteBack;
 
 mod post;
 mod queue;
@@ -20,6 +21,15 @@ pub struct Fresh {
 pub struct Posted {
     pub answer: u8,
     pub queue: RxQueue,
+}
+
+// A packet handed up: places past its slots are 0, and the fields are those of its last slot.
+pub struct Packet {
+    pub count: usize,
+    pub total: usize,
+    pub addresses: [u64; PACKET_SLOTS],
+    pub lengths: [usize; PACKET_SLOTS],
+    pub last: WriteBack,
 }
 
 pub struct Taken {

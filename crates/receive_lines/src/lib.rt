@@ -2,12 +2,12 @@
 // what it prints is compared.
 use command::Command;
 use family::family_number;
+use receive::Packet;
 use receive::Posted;
 use receive::RxQueue;
 use receive::Taken;
 use ring::Asked;
 use ring::Queue;
-use scan::Packet;
 use script::Given;
 use script::LONGEST;
 use script::RING;

@@ -8,7 +8,7 @@ use native.Mathlib.Omega.{arith}
 use lib.ListN.{length, getD, set, take, replicate}
 use Rattle.scan.specs.Slots.{Slot}
 use Rattle.scan.specs.Scan.{packetSlots, Look, refuse, whole, andThen}
-use Rattle.scan.specs.Packet.{sum, padded, lastWords}
+use Rattle.scan.specs.Told.{sum, padded, lastWords}
 
 -- ---- the places, those past the slots 0
 

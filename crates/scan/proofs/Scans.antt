@@ -13,11 +13,10 @@ use Rattle.ring.specs.declared.Queue.{Queue}
 use Rattle.ring.specs.Slots.{run}
 use Rattle.ring.specs.Queue.{slotOf}
 use Rattle.ring.proofs.Runs.{length-run, getD-run, run-take}
-use Rattle.family.specs.Types.{familyOf}
-use Rattle.writeback.specs.WriteBack.{dd, eop, writeBackOf}
+use Rattle.places.specs.Words.{dd, eop}
 use Rattle.scan.specs.Slots.{Slot, slotIn, postedSlots}
 use Rattle.scan.specs.Scan.{packetSlots, lengthOk, endOk, allowed, writable, Complete, ends, goes, Look, refuse, whole, andThen, scan, slotChecks}
-use Rattle.scan.specs.Packet.{sum, padded, lastWords, packetOf, noPacket}
+use Rattle.scan.specs.Told.{padded}
 use Rattle.scan.proofs.Packets.{padded-at, map-at}
 use Rattle.scan.proofs.Walk.{allowed-last, allowed-on, not-fifth}
 
@@ -97,11 +96,6 @@ refused-with buffer k (s ∷ rest) n h =
     go true true true true f h r = let z : _≡_ {A = ℕ} 0 1 = cc in absurd (omega arith)
     go true true true false (refuse m) h r = let e : m ≡ n = cc in rw (← e) (r m refl)
     go true true true false (whole p) h r = let z : _≡_ {A = ℕ} 0 1 = cc in absurd (omega arith)
-
--- the packet of no slots is zeros throughout
-pub no-slots : packetOf [] ≡ noPacket
-unfolding packetOf padded sum lastWords writeBackOf familyOf
-no-slots = refl
 
 -- the number of what a scan sees
 abbrev pub numberOf : Look → ℕ

@@ -16,10 +16,10 @@ use Rattle.ring.specs.Slots.{run}
 use Rattle.ring.specs.Queue.{slotOf, advanced}
 use Rattle.ring.proofs.Runs.{length-run, run-snoc}
 use Rattle.places.specs.Places.{lengthPlace}
-use Rattle.writeback.specs.WriteBack.{Words, dd, eop, lengthOf, writeBackOf}
+use Rattle.places.specs.Words.{Words, dd, eop, lengthOf}
 use Rattle.scan.specs.Slots.{Slot, slotIn, postedSlots}
 use Rattle.scan.specs.Scan.{packetSlots, lengthOk, endOk, allowed, Look, refuse, whole, andThen, scan}
-use Rattle.scan.specs.Packet.{sum, padded, addressesOf, lengthsOf, packetOf, seenBy}
+use Rattle.scan.specs.Told.{sum, padded, addressesOf, lengthsOf, seenOf, seenBy}
 use Rattle.scan.proofs.Packets.{padded-more, sum-more, map-more, last-more, after, after-more, after-refuse, after-whole}
 
 -- ---- one slot of a scan
@@ -183,15 +183,14 @@ module _ (q : Queue) (buffer : ℕ) (ring list addresses lengths : List ℕ) (to
         ≡ record {
           answer = 0;
           queue = advanced q (k + 1);
-          packet = record {
-            count = k + 1;
-            total = total + size;
-            addresses = set addresses k (here .address);
-            lengths = set lengths k size;
-            last = writeBackOf (here .words);
-          };
+          count = k + 1;
+          total = total + size;
+          addresses = set addresses k (here .address);
+          lengths = set lengths k size;
+          word0 = here .words .word0;
+          word1 = here .words .word1;
         }
-    unfolding seenBy packetOf
+    unfolding seenBy seenOf
     complete d a e =
         rw (from-here _ (allowed-last _ _ here _ d (allow a) e) ∙ after-whole _ _ ∙ ap whole (sym more))
         (rw (addresses-more, lengths-more, total-more, length-run) (rw (more, last-more)))

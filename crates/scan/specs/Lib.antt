@@ -1,3 +1,3 @@
 pub mod Slots
 pub mod Scan
-pub mod Packet
+pub mod Told

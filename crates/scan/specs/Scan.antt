@@ -6,7 +6,7 @@ use mathlib.Core.Bool.{Bool, true, false, not, _&&_, _||_, cond}
 use mathlib.Core.List.{List, [], _∷_}
 use lib.Dec.{leb, ltb}
 use Rattle.rules.specs.Rules.{Check, _when_}
-use Rattle.writeback.specs.WriteBack.{Words, dd, eop, lengthOf}
+use Rattle.places.specs.Words.{Words, dd, eop, lengthOf}
 use Rattle.scan.specs.Slots.{Slot}
 
 -- ---- the device's rules

@@ -5,7 +5,7 @@ use mathlib.Core.List.{List, [], _∷_}
 use lib.ListN.{getD}
 use Rattle.ring.specs.Slots.{run}
 use Rattle.ring.specs.Memory.{store, numbersAt}
-use Rattle.writeback.specs.WriteBack.{Words}
+use Rattle.places.specs.Words.{Words}
 use Rattle.ring.specs.declared.Queue.{Queue}
 
 -- a posted slot: the address that the companion list keeps for it, and its words

@@ -3,31 +3,26 @@ ghost use mathlib.Core.Path.{_≡_};
 ghost use Prim.Native.Nat.{_<_};
 ghost use lib.ListN.{length};
 ghost use Rattle.ring.specs.Sizes.{mostSize};
-ghost use Rattle.ring.specs.Queue.{advanced};
-ghost use Rattle.ring.specs.Steps.{Lent, Advance};
+ghost use Rattle.ring.specs.Steps.{Lent};
 ghost use Rattle.scan.specs.Slots.{postedSlots};
 ghost use Rattle.scan.specs.Scan.{Look, allowed, scan};
-ghost use Rattle.scan.specs.Packet.{seenBy};
+ghost use Rattle.scan.specs.Told.{seenBy};
 use ring::Queue;
-use writeback::WriteBack;
 
 // A packet is 1 to 5 slots.
-const PACKET_SLOTS: usize = 5;
+pub const PACKET_SLOTS: usize = 5;
 
-// A packet handed up: places past its slots are 0, and the fields are those of its last slot.
-pub struct Packet {
+// What a scan gives: the answer, the record's shared part after it, and of a packet the slot count, the total length, each slot's address and length
+// (places past the slots are 0) and the last slot's words.
+pub struct Seen {
+    pub answer: u8,
+    pub queue: Queue,
     pub count: usize,
     pub total: usize,
     pub addresses: [u64; PACKET_SLOTS],
     pub lengths: [usize; PACKET_SLOTS],
-    pub last: WriteBack,
-}
-
-// What a scan gives: the answer, the record's shared part after it and the packet.
-pub struct Seen {
-    pub answer: u8,
-    pub queue: Queue,
-    pub packet: Packet,
+    pub word0: u64,
+    pub word1: u64,
 }
 
 // What the device's rules allow in a slot with k slots of its packet before it.
@@ -44,30 +39,15 @@ fn slot_ok(buffer: usize, k: usize, word1: u64) -> bool
 pub fn refused(queue: Queue, answer: u8) -> Seen
     ensures { λ r. ⌜ r ≡ seenBy (Look.refuse answer) queue ⌝ }
 {
-    let last = writeback::read(0, 0);
     Seen {
         answer,
         queue,
-        packet: Packet {
-            count: 0,
-            total: 0,
-            addresses: [0; PACKET_SLOTS],
-            lengths: [0; PACKET_SLOTS],
-            last,
-        },
-    }
-}
-
-// A packet handed up, and the record without its slots.
-fn handed(queue: Queue, packet: Packet) -> Seen
-    requires { ⌜ Advance queue (packet .count) ⌝ }
-    ensures { λ r. ⌜ r ≡ record { answer = 0; queue = advanced queue (packet .count); packet = packet } ⌝ }
-{
-    let count = packet.count;
-    Seen {
-        answer: 0,
-        queue: queue.advanced(count),
-        packet,
+        count: 0,
+        total: 0,
+        addresses: [0; PACKET_SLOTS],
+        lengths: [0; PACKET_SLOTS],
+        word0: 0,
+        word1: 0,
     }
 }
 
@@ -97,17 +77,16 @@ pub fn posted(queue: Queue, buffer: usize, ring: &[u64], list: &[u64]) -> Seen
             total += length;
             k += 1;
             if places::eop(word1) {
-                let last = writeback::read(ring[first], word1);
-                return handed(
-                    queue,
-                    Packet {
-                        count: k,
-                        total,
-                        addresses,
-                        lengths,
-                        last,
-                    },
-                );
+                return Seen {
+                    answer: 0,
+                    queue: queue.advanced(k),
+                    count: k,
+                    total,
+                    addresses,
+                    lengths,
+                    word0: ring[first],
+                    word1,
+                };
             }
         } else {
             return refused(queue, 5);

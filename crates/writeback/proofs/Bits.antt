@@ -13,7 +13,8 @@ use mir.Facts.{and-yes, or-yes}
 use Rattle.field.specs.Field.{replaced, Part, nth, rising, apart, free}
 use Rattle.field.proofs.Laws.{replaced-same, replaced-apart}
 use Rattle.places.specs.Places.{places0, places1}
-use Rattle.writeback.specs.WriteBack.{Words, writeBackOf}
+use Rattle.places.specs.Words.{Words}
+use Rattle.writeback.specs.WriteBack.{writeBackOf}
 use Rattle.writeback.specs.Bits.{readsAt, putAt, made}
 
 -- ---- a table's places, and a word with one field replaced

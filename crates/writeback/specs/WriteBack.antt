@@ -1,28 +1,14 @@
 -- A received slot's two words as the device wrote them (01, "Receiving"; Intel's Section 2.1.2.2 and Table 2-4).
 -- Assumes nothing.
 use Prim.Native.Nat.{ℕ}
-use mathlib.Core.Bool.{Bool, false, cond}
+use mathlib.Core.Bool.{false, cond}
 use lib.Dec.{eqb}
 use Rattle.field.specs.Field.{readAt, isSet}
 use Rattle.family.specs.declared.Family.the-variants.{Unknown}
 use Rattle.family.specs.Types.{familyOf}
 use Rattle.writeback.specs.declared.WriteBack.{WriteBack}
-use Rattle.places.specs.Places.{l2tag1Place, filterPlace, ddPlace, eopPlace, l2tag1pPlace, l3l4pPlace, crcpPlace, umbcastPlace, fltstatPlace, lpbkPlace, ipv6exaddPlace, intUdp0Place, ipePlace, l4ePlace, oversizePlace, ptypePlace, lengthPlace}
-
--- the two words of a descriptor
-pub record Words : Type 0 where
-  pub word0 : ℕ
-  pub word1 : ℕ
-
--- DD, EOP and the length, which take decides by
-abbrev pub dd : Words → Bool
-dd x = isSet ddPlace (x .word1)
-
-abbrev pub eop : Words → Bool
-eop x = isSet eopPlace (x .word1)
-
-abbrev pub lengthOf : Words → ℕ
-lengthOf x = readAt lengthPlace (x .word1)
+use Rattle.places.specs.Places.{l2tag1Place, filterPlace, l2tag1pPlace, l3l4pPlace, crcpPlace, umbcastPlace, fltstatPlace, lpbkPlace, ipv6exaddPlace, intUdp0Place, ipePlace, l4ePlace, oversizePlace, ptypePlace}
+use Rattle.places.specs.Words.{Words, dd, eop, lengthOf}
 
 -- the VLAN tag reads as 0 unless L2TAG1P is set, the hash as 0 unless FLTSTAT is 11b
 abbrev pub tagOf : Words → ℕ

@@ -5,7 +5,7 @@ use borrow.Author.Tests.{not-true, not-false}
 use Prim.Native.Nat.{_-_}
 use native.Mathlib.Omega.{arith}
 use borrow.Author.Needs.{needs}
-use Rattle.scan.specs.Packet.{padded}
+use Rattle.scan.specs.Told.{padded}
 use Rattle.scan.proofs.Walk.{Walked, first, at-end, at-clear, at-wrong, next, complete}
 use Rattle.scan.proofs.posted.Statement.{statement}
 use Rattle.scan.proofs.posted.Tie as tie
@@ -79,26 +79,22 @@ add-k c = search needs
 eop-requires : tie.Need-eop-requires Inv-loop μ-loop
 eop-requires c κs = search needs
 
-mul-read : tie.Need-mul-read Inv-loop μ-loop
-mul-read c = search needs
+advanced-requires : tie.Need-advanced-requires Inv-loop μ-loop
+advanced-requires c κs = search needs
 
-shared-slice-read-read : tie.Need-shared-slice-read-read Inv-loop μ-loop
-shared-slice-read-read c = search needs
+mul-t35 : tie.Need-mul-t35 Inv-loop μ-loop
+mul-t35 c = search needs
 
-read-requires : tie.Need-read-requires Inv-loop μ-loop
-read-requires c κs = search needs
-
-handed-requires : tie.Need-handed-requires Inv-loop μ-loop
-handed-requires c κs = search needs
+shared-slice-read-t37 : tie.Need-shared-slice-read-t37 Inv-loop μ-loop
+shared-slice-read-t37 c = search needs
 
 returns-2 : tie.Need-returns-2 Inv-loop μ-loop
 returns-2 c =
-    let p = c .before .before .before .before .before .before .before .before .before in
+    let p = c .before .before .before .before .before .before .before .before in
     let d = sym (p .before .dd .ensures) ∙ not-false _ (p .if1 .left) in
-    let a = sym (c .before .before .before .before .before .before .before .before .slot-ok .ensures) ∙ c .before .before .before .before .before .before .before .if2 .taken in
-    let e = sym (c .before .before .before .before .eop .ensures) ∙ c .before .before .before .if3 .taken in
-    c .handed .ensures
-    ∙ rw (c .before .read .ensures, c .before .before .before .before .before .before .length .ensures)
+    let a = sym (c .before .before .before .before .before .before .before .slot-ok .ensures) ∙ c .before .before .before .before .before .before .if2 .taken in
+    let e = sym (c .before .before .before .eop .ensures) ∙ c .before .before .if3 .taken in
+    rw (c .before .advanced .ensures, c .before .before .before .before .before .length .ensures)
     (sym (complete _ _ _ _ _ _ _ _ (p .before .before .before .before .before .loop .inv) (omega arith) _ (p .before .before .before .slot .ensures .is) d a e))
 
 loop-less : tie.Need-loop-less Inv-loop μ-loop
@@ -154,10 +150,9 @@ posted-spec =
     add-total
     add-k
     eop-requires
-    mul-read
-    shared-slice-read-read
-    read-requires
-    handed-requires
+    advanced-requires
+    mul-t35
+    shared-slice-read-t37
     returns-2
     loop-less
     loop-again

@@ -1,12 +1,11 @@
--- What a scan gives back: the packet of the slots seen, or zeros (01, "Receiving").
+-- What a scan gives back: what is told of the slots of the packet, or zeros (01, "Receiving").
 -- Assumes nothing.
 use Prim.Native.Nat.{ℕ, _+_}
 use mathlib.Core.List.{List, [], _∷_, _++_, map}
 use lib.ListN.{length, take, replicate}
 use Rattle.ring.specs.declared.Queue.{Queue}
 use Rattle.ring.specs.Queue.{advanced}
-use Rattle.writeback.specs.WriteBack.{Words, lengthOf, writeBackOf, noWriteBack}
-use Rattle.scan.specs.declared.Packet.{Packet}
+use Rattle.places.specs.Words.{Words, lengthOf}
 use Rattle.scan.specs.declared.Seen.{Seen}
 use Rattle.scan.specs.Slots.{Slot}
 use Rattle.scan.specs.Scan.{packetSlots, Look, refuse, whole}
@@ -31,30 +30,21 @@ lastWords [] = record { word0 = 0; word1 = 0 }
 lastWords (s ∷ []) = s .words
 lastWords (s ∷ (t ∷ r)) = lastWords (t ∷ r)
 
--- the slot count, the total length, each slot's posted address and length, and the last slot's fields
-unfoldable pub packetOf : List Slot → Packet
-packetOf p =
+-- the answer and the record, the slot count, the total length, each slot's posted address and length, and the last slot's words
+unfoldable pub seenOf : ℕ → Queue → List Slot → Seen
+seenOf n q p =
     record {
+      answer = n;
+      queue = q;
       count = length p;
       total = sum (lengthsOf p);
       addresses = padded (addressesOf p);
       lengths = padded (lengthsOf p);
-      last = writeBackOf (lastWords p);
+      word0 = lastWords p .word0;
+      word1 = lastWords p .word1;
     }
 
--- zeros in all fields: what a refusal gives for a packet
-abbrev pub noPacket : Packet
-noPacket =
-    record {
-      count = 0;
-      total = 0;
-      addresses = 0 ∷ 0 ∷ 0 ∷ 0 ∷ 0 ∷ [];
-      lengths = 0 ∷ 0 ∷ 0 ∷ 0 ∷ 0 ∷ [];
-      last = noWriteBack;
-    }
-
--- a refusal gives the record as it came and the packet of no slots, which is `noPacket`; with a packet head moves on by its slots, and
--- posted falls by them
+-- a refusal gives the record as it came and zeros; with a packet head moves on by its slots, and posted falls by them
 unfoldable pub seenBy : Look → Queue → Seen
-seenBy (refuse n) q = record { answer = n; queue = q; packet = packetOf [] }
-seenBy (whole p) q = record { answer = 0; queue = advanced q (length p); packet = packetOf p }
+seenBy (refuse n) q = seenOf n q []
+seenBy (whole p) q = seenOf 0 (advanced q (length p)) p
