@@ -20,7 +20,8 @@ pub fn slot(head: usize, size: usize, k: usize) -> usize
     requires { ⌜ Step head size k ⌝ }
     ensures { λ r. ⌜ SlotIs head size k r ⌝ }
 {
-    (head + k) % size
+    let at = head + k;
+    if at < size { at } else { at - size }
 }
 
 // The part of a queue record that both queues have.
