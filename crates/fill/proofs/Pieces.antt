@@ -1,11 +1,10 @@
 -- The pieces of a send as a row of slots: those before the last and the last; and a segmented send's context descriptor before them.
 -- Assumes nothing.
-use Prim.Native.Nat.{ℕ, suc, _+_, _-_, _*_, _%_, _^_, _≤_, _<_}
+use Prim.Native.Nat.{ℕ, _+_, _-_, _*_, _%_, _^_, _≤_, _<_}
 use mathlib.Core.Path.{_≡_, sym, ap, ap₂, _∙_}
 use mathlib.Core.Bool.{true, false}
 use mathlib.Core.List.{List, [], _∷_}
 use native.Mathlib.Nat.{add-zero, mod-eq-of-lt}
-use native.Mathlib.Numerals.{add-one}
 use native.Mathlib.Omega.{arith}
 use borrow.Author.Tests.{eq-eqb, ne-eqb}
 use lib.Bits.{bitOr}
@@ -14,15 +13,16 @@ use lib.ListN.{length, getD}
 use Rattle.field.specs.Field.{placed, wordOf}
 use Rattle.ring.specs.Slots.{slotAt}
 use Rattle.ring.specs.Memory.{store, storeRun}
-use Rattle.ring.proofs.Rows.{row-more}
+use Rattle.ring.proofs.Steps.{slot-here}
+use Rattle.ring.proofs.Rows.{row-none, row-more}
 use Rattle.descriptor.specs.Words.{dataWord, lengthLine}
 use Rattle.request.specs.declared.Request.{Request}
 use Rattle.request.specs.Request.{slotsOf, dataOf}
 use Rattle.fill.specs.Descriptors.{pieceNumbers, contextNumbers, descriptor}
 use Rattle.fill.specs.Steps.{leadingNumbers}
-use Rattle.fill.proofs.Rows.{row-agree, row-first}
+use Rattle.fill.proofs.Rows.{row-agree, row-join}
 use Rattle.fill.proofs.Words.{with-length}
-use Rattle.fill.proofs.Places.{context-first, piece-at}
+use Rattle.fill.proofs.Places.{slots-sum, context-at, piece-at}
 
 -- one piece more before the last, as the loop goes on: `alike | length << 34`
 pub put-next : (alike : ℕ) (addresses lengths : List ℕ) (size start : ℕ) (ring : List ℕ) (i : ℕ) {slot : ℕ} {ring₁ ring₂ : List ℕ}
@@ -39,6 +39,20 @@ put-next alike addresses lengths size start ring i {slot} {ring₁} {ring₂} r 
     ∙ ap (λ (w : ℕ). store 2 ring₁ slot (getD addresses i 0 ∷ bitOr alike w ∷ [])) word
     ∙ ap₂ (λ (m : List ℕ) (t : ℕ). store 2 m t (f i)) r s
     ∙ sym (row-more 2 size f ring start i)
+
+module _ (request : Request) (size start : ℕ) where
+  -- the context descriptor, or none
+  pub put-context : (ring : List ℕ) → request .segmented ≡ true → start < size → {word : ℕ} {ring₁ : List ℕ}
+      → (0 ∷ word ∷ []) ≡ contextNumbers request
+      → ring₁ ≡ store 2 ring start (0 ∷ word ∷ [])
+      → ring₁ ≡ storeRun 2 size (λ _. contextNumbers request) ring start (slotsOf request 0)
+  put-context ring t l w p =
+      let f : ℕ → List ℕ = λ _. contextNumbers request in
+      let one = row-more 2 size f ring start 0 ∙ ap (λ (m : List ℕ). store 2 m (slotAt start size 0) (f 0)) (row-none 2 size f ring start) in
+      rw t (p ∙ ap₂ (store 2 ring) (sym (slot-here start size l)) w ∙ sym one)
+
+  pub put-none : (ring : List ℕ) → request .segmented ≡ false → ring ≡ storeRun 2 size (λ _. contextNumbers request) ring start (slotsOf request 0)
+  put-none ring t = rw t (sym (row-none 2 size (λ _. contextNumbers request) ring start))
 
 module _ (request : Request) (addresses lengths : List ℕ) (size start : ℕ) where
   -- a piece before the last one
@@ -61,25 +75,18 @@ module _ (request : Request) (addresses lengths : List ℕ) (size start : ℕ) w
       let end : (getD addresses n 0 ∷ word ∷ []) ≡ f n = rw (w, eq-eqb _ _ e) in
       p ∙ ap (store 2 ring₁ slot) end ∙ ap₂ (λ (m : List ℕ) (t : ℕ). store 2 m t (f n)) first s ∙ sym (row-more 2 size f ring start n) ∙ ap (storeRun 2 size f ring start) e
 
-  -- the context descriptor, then the pieces
-  pub put-segmented : (ring : List ℕ) → request .segmented ≡ true → start < size → {first word : ℕ} {ring₁ ring₂ : List ℕ}
-      → first ≡ slotAt start size 1
-      → (0 ∷ word ∷ []) ≡ contextNumbers request
-      → ring₁ ≡ store 2 ring start (0 ∷ word ∷ [])
+  -- the context descriptor or none, then the pieces
+  pub put-all : (ring : List ℕ) {first : ℕ} {ring₁ ring₂ : List ℕ}
+      → ring₁ ≡ storeRun 2 size (λ _. contextNumbers request) ring start (slotsOf request 0)
+      → first ≡ slotAt start size (slotsOf request 0)
       → ring₂ ≡ storeRun 2 size (pieceNumbers request addresses lengths) ring₁ first (length lengths)
       → ring₂ ≡ storeRun 2 size (descriptor request addresses lengths) ring start (slotsOf request (length lengths))
-  put-segmented ring t l {first} {word} {ring₁} {ring₂} s w p r =
+  put-all ring {first} {ring₁} {ring₂} c s r =
       let f = descriptor request addresses lengths in
-      let here : slotAt start size 0 ≡ start = ap (λ (k : ℕ). k % size) (add-zero start) ∙ mod-eq-of-lt l in
-      let one : ring₁ ≡ store 2 ring (slotAt start size 0) (f 0) = p ∙ ap₂ (store 2 ring) (sym here) (w ∙ sym (context-first request addresses lengths t)) in
-      let later : (k : ℕ) → k < length lengths → pieceNumbers request addresses lengths k ≡ f (suc k) = λ k _. sym (piece-at request addresses lengths k) ∙ ap f {x = slotsOf request k} {y = suc k} (rw t (add-one k)) in
-      r ∙ rw (one, s) (row-agree 2 size (pieceNumbers request addresses lengths) (λ k. f (suc k)) _ (slotAt start size 1) (length lengths) later ∙ sym (row-first 2 size f ring start (length lengths)) ∙ ap (storeRun 2 size f ring start) (rw t (sym (add-one (length lengths)))))
-
-  -- no context descriptor
-  pub put-plain : (ring : List ℕ) → request .segmented ≡ false → {ring₁ : List ℕ}
-      → ring₁ ≡ storeRun 2 size (pieceNumbers request addresses lengths) ring start (length lengths)
-      → ring₁ ≡ storeRun 2 size (descriptor request addresses lengths) ring start (slotsOf request (length lengths))
-  put-plain ring t r =
-      let f = descriptor request addresses lengths in
-      let same : (k : ℕ) → k < length lengths → pieceNumbers request addresses lengths k ≡ f k = λ k _. sym (piece-at request addresses lengths k) ∙ ap f {x = slotsOf request k} {y = k} (rw t) in
-      r ∙ row-agree 2 size _ _ ring start (length lengths) same ∙ rw t
+      let a : ℕ = slotsOf request 0 in
+      let before : ring₁ ≡ storeRun 2 size f ring start a = c ∙ row-agree 2 size (λ _. contextNumbers request) f ring start a (context-at request addresses lengths) in
+      let later : (k : ℕ) → k < length lengths → pieceNumbers request addresses lengths k ≡ f (a + k) = λ k _. sym (piece-at request addresses lengths k) ∙ ap f (sym (slots-sum request k)) in
+      r
+      ∙ rw (before, s) (row-agree 2 size (pieceNumbers request addresses lengths) (λ k. f (a + k)) _ _ (length lengths) later)
+      ∙ sym (row-join 2 size f ring start a (length lengths))
+      ∙ ap (storeRun 2 size f ring start) (slots-sum request (length lengths))

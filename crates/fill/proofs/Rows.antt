@@ -1,12 +1,13 @@
--- Rows of slots, seen from another side: two rows with the same numbers, and a row by its first slot and the rest.
+-- Rows of slots, seen from another side: two rows with the same numbers, and a row by its first slots and the rest.
 -- Assumes nothing.
-use Prim.Native.Nat.{ℕ, zero, suc, _+_, _%_, _<_}
-use mathlib.Core.Path.{_≡_, refl, sym, ap, _∙_}
+use Prim.Native.Nat.{ℕ, zero, suc, _+_, _<_}
+use mathlib.Core.Path.{_≡_, refl, ap, _∙_}
 use mathlib.Core.List.{List}
-use native.Mathlib.Nat.{mod-add-mod}
+use native.Mathlib.Nat.{add-zero}
 use native.Mathlib.Omega.{arith}
 use Rattle.ring.specs.Slots.{slotAt}
 use Rattle.ring.specs.Memory.{store, storeRun}
+use Rattle.ring.proofs.Steps.{slot-on}
 
 module _ (width size : ℕ) where
   pub row-agree : (f g : ℕ → List ℕ) (memory : List ℕ) (i n : ℕ) → ((k : ℕ) → k < n → f k ≡ g k) → storeRun width size f memory i n ≡ storeRun width size g memory i n
@@ -15,13 +16,10 @@ module _ (width size : ℕ) where
   row-agree f g memory i (suc n) h =
       rw (h n (omega arith), row-agree f g memory i n (λ k l. h k (omega arith)))
 
-  -- the slot after the first n of a row that begins one further
-  next : (i n : ℕ) → slotAt i size (suc n) ≡ slotAt (slotAt i size 1) size n
-  next i n = ap (λ (k : ℕ). k % size) (omega arith) ∙ sym (mod-add-mod (i + 1) size n)
-
-  pub row-first : (f : ℕ → List ℕ) (memory : List ℕ) (i n : ℕ)
-      → storeRun width size f memory i (suc n) ≡ storeRun width size (λ k. f (suc k)) (store width memory (slotAt i size 0) (f 0)) (slotAt i size 1) n
+  pub row-join : (f : ℕ → List ℕ) (memory : List ℕ) (i a n : ℕ)
+      → storeRun width size f memory i (a + n) ≡ storeRun width size (λ k. f (a + k)) (storeRun width size f memory i a) (slotAt i size a) n
   unfolding storeRun
-  row-first f memory i zero = refl
-  row-first f memory i (suc n) =
-      rw (← next i n) (ap (λ (m : List ℕ). store width m (slotAt i size (suc n)) (f (suc n))) (row-first f memory i n))
+  row-join f memory i a zero = rw (add-zero a)
+  row-join f memory i a (suc n) =
+      ap (storeRun width size f memory i) {x = a + suc n} {y = suc (a + n)} (omega arith)
+      ∙ rw (slot-on i size a n) (ap (λ (m : List ℕ). store width m (slotAt i size (a + n)) (f (a + n))) (row-join f memory i a n))

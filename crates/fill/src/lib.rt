@@ -4,8 +4,9 @@ ghost use mathlib.Core.List.{[], _∷_};
 ghost use Prim.Native.Nat.{_+_, _-_, _*_, _<_};
 ghost use lib.ListN.{length};
 ghost use Rattle.ring.specs.Memory.{store, storeRun};
+ghost use Rattle.ring.specs.Steps.{Step, SlotIs};
 ghost use Rattle.request.specs.Request.{slotsOf};
-ghost use Rattle.fill.specs.Descriptors.{pieceNumbers, descriptor};
+ghost use Rattle.fill.specs.Descriptors.{pieceNumbers, contextNumbers, descriptor};
 ghost use Rattle.fill.specs.Steps.{Room, leadingNumbers};
 use descriptor::LENGTH;
 use request::Request;
@@ -21,7 +22,7 @@ fn put_slot(ring: &mut [u64], slot: usize, first: u64, second: u64)
     ring[2 * slot + 1] = second;
 }
 
-// The pieces before the last one, from slot start on. Their words 1 are alike but for the length.
+// The pieces before the last one, from slot start on; then the slot behind them. Their words 1 are alike but for the length.
 fn put_leading(
     ring: &mut [u64],
     size: usize,
@@ -29,17 +30,20 @@ fn put_leading(
     addresses: &[u64],
     lengths: &[u64],
     alike: u64,
-)
+) -> usize
     requires { ⌜ Room (now ring) (now addresses) (now lengths) size start (length (now lengths)) ⌝ }
-    ensures { λ _. ⌜ now (ring .exit) ≡ storeRun 2 size (leadingNumbers alike (now (addresses .entry)) (now (lengths .entry))) (now (ring .entry)) start (length (now (lengths .entry)) - 1) ⌝ }
+    ensures stored { λ _. ⌜ now (ring .exit) ≡ storeRun 2 size (leadingNumbers alike (now (addresses .entry)) (now (lengths .entry))) (now (ring .entry)) start (length (now (lengths .entry)) - 1) ⌝ }
+    ensures behind { λ r. ⌜ SlotIs start size (length (now (lengths .entry)) - 1) r ⌝ }
 {
     let last = lengths.len() - 1;
+    let mut at = start;
     let mut i = 0;
     while i < last {
-        let slot = ring::slot(start, size, i);
-        put_slot(ring, slot, addresses[i], alike | lengths[i] << LENGTH);
+        put_slot(ring, at, addresses[i], alike | lengths[i] << LENGTH);
+        at = ring::next(at, size);
         i += 1;
     }
+    at
 }
 
 // All pieces, from slot start on.
@@ -55,11 +59,26 @@ fn put_pieces(
     ensures { λ _. ⌜ now (ring .exit) ≡ storeRun 2 size (pieceNumbers request (now (addresses .entry)) (now (lengths .entry))) (now (ring .entry)) start (length (now (lengths .entry))) ⌝ }
 {
     let last = lengths.len() - 1;
-    let slot = ring::slot(start, size, last);
     let word = piece_word(request, lengths[last], true);
     let alike = piece_word(request, 0, false);
-    put_leading(ring, size, start, addresses, lengths, alike);
+    let slot = put_leading(ring, size, start, addresses, lengths, alike);
     put_slot(ring, slot, addresses[last], word);
+}
+
+// The context descriptor at the tail if segmented; then the slot where the pieces begin.
+fn put_context(ring: &mut [u64], size: usize, tail: usize, request: Request) -> usize
+    requires { ⌜ Step tail size 1 ⌝ }
+    requires { ⌜ length (now ring) ≡ 2 * size ⌝ }
+    ensures stored { λ _. ⌜ now (ring .exit) ≡ storeRun 2 size (λ _. contextNumbers request) (now (ring .entry)) tail (slotsOf request 0) ⌝ }
+    ensures behind { λ r. ⌜ SlotIs tail size (slotsOf request 0) r ⌝ }
+{
+    if request.segmented {
+        let word = segmentation_word(request);
+        put_slot(ring, tail, 0, word);
+        ring::next(tail, size)
+    } else {
+        tail
+    }
 }
 
 // One context descriptor before the pieces if segmented.
@@ -74,12 +93,6 @@ pub fn put_descriptors(
     requires { ⌜ Room (now ring) (now addresses) (now lengths) size tail (slotsOf request (length (now lengths))) ⌝ }
     ensures { λ _. ⌜ now (ring .exit) ≡ storeRun 2 size (descriptor request (now (addresses .entry)) (now (lengths .entry))) (now (ring .entry)) tail (slotsOf request (length (now (lengths .entry)))) ⌝ }
 {
-    if request.segmented {
-        let start = ring::slot(tail, size, 1);
-        let word = segmentation_word(request);
-        put_slot(ring, tail, 0, word);
-        put_pieces(ring, size, start, addresses, lengths, request);
-    } else {
-        put_pieces(ring, size, tail, addresses, lengths, request);
-    }
+    let start = put_context(ring, size, tail, request);
+    put_pieces(ring, size, start, addresses, lengths, request);
 }

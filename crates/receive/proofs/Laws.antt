@@ -1,6 +1,6 @@
 -- What an accepted record and accepted lent slices keep, as facts; and what an accepted post does.
 -- Assumes nothing.
-use Prim.Native.Nat.{ℕ, _+_, _-_, _*_, _^_, _<_}
+use Prim.Native.Nat.{ℕ, _+_, _-_, _*_, _^_, _≤_, _<_}
 use mathlib.Core.Path.{_≡_, sym, _∙_}
 use mathlib.Core.Bool.{true, not, _&&_}
 use mathlib.Core.List.{[], _∷_}
@@ -8,14 +8,14 @@ use native.Mathlib.Omega.{arith}
 use borrow.Author.Tests.{eqb-true, eqb-false, not-false}
 use lib.Dec.{eqb}
 use Rattle.rules.specs.Rules.{_when_}
-use Rattle.rules.proofs.Tests.{both}
+use Rattle.rules.proofs.Tests.{both, steps-is}
 use Rattle.rules.proofs.Checks.{passed}
 use Rattle.ring.specs.Sizes.{tailBits}
 use Rattle.ring.specs.Queue.{Shared, sharedOk}
 use Rattle.ring.specs.Steps.{Lent}
 use Rattle.ring.proofs.Record.{shared, tail-fits, asked-below}
 use Rattle.receive.specs.declared.RxQueue.{RxQueue}
-use Rattle.receive.specs.Queue.{bufferOk, recordOk, lentOk, emptyQueue, freshOf, tailValueOf}
+use Rattle.receive.specs.Queue.{leastBuffer, mostBuffer, bufferStep, bufferOk, recordOk, lentOk, emptyQueue, freshOf, tailValueOf}
 use Rattle.receive.specs.Post.{postChecks, postAnswer}
 use Rattle.receive.proofs.Causes.{fresh-answer}
 
@@ -31,6 +31,10 @@ pub kept : (q : RxQueue) → recordOk q ≡ true → Shared (q .shared)
 unfolding recordOk
 kept q e = shared (q .shared) (both (sharedOk (q .shared)) (bufferOk (q .buffer)) e .0)
 
+buffer-least : (q : RxQueue) → recordOk q ≡ true → leastBuffer ≤ q .buffer
+unfolding recordOk
+buffer-least q e = steps-is leastBuffer mostBuffer bufferStep (q .buffer) (both (sharedOk (q .shared)) (bufferOk (q .buffer)) e .1) .least
+
 -- the tail value fits its field of 13 bits
 pub tail-value-fits : (q : RxQueue) → tailValueOf q .value < 2 ^ tailBits
 tail-value-fits q = asked-below (recordOk q) _ _ (omega arith) (λ e. tail-fits (q .shared) (kept q e))
@@ -41,6 +45,10 @@ lent q ringLength listLength e =
     let a = both (recordOk q) (eqb ringLength (2 * q .shared .size) && eqb listLength (q .shared .size)) e in
     let l = both (eqb ringLength (2 * q .shared .size)) (eqb listLength (q .shared .size)) (a .1) in
     record { is = kept q (a .0); ring-long = eqb-true _ _ (l .0); list-long = eqb-true _ _ (l .1) }
+
+pub lent-buffer : (q : RxQueue) (ringLength listLength : ℕ) → lentOk q ringLength listLength ≡ true → leastBuffer ≤ q .buffer
+unfolding lentOk
+lent-buffer q ringLength listLength e = buffer-least q (both (recordOk q) (eqb ringLength (2 * q .shared .size) && eqb listLength (q .shared .size)) e .0)
 
 -- an accepted post was lent what the size asks, and had room
 pub done-lent : (q : RxQueue) (ringLength listLength address : ℕ) → postAnswer q ringLength listLength address ≡ 0 → Lent (q .shared) ringLength listLength

@@ -3,13 +3,36 @@
 use Prim.Native.Nat.{ℕ, _+_, _-_, _%_, _≤_, _<_}
 use mathlib.Core.Path.{_≡_, sym, ap, _∙_}
 use mathlib.Core.Logic.{_≢_, _⊎_, inl, inr, ⊎-elim}
-use native.Mathlib.Nat.{mod-lt, mod-add-mod, mod-eq-of-lt, mod-eq-sub-mod}
+use native.Mathlib.Nat.{add-zero, mod-lt, mod-add-mod, mod-eq-of-lt, mod-eq-sub-mod}
 use native.Mathlib.Decide.{decLt}
 use native.Mathlib.Omega.{arith}
-use Rattle.ring.specs.Slots.{slotAt, distance}
+use Rattle.ring.specs.Slots.{slotAt, distance, mostSlots}
+use Rattle.ring.specs.Steps.{Step, SlotIs}
 
 pub slot-below : (head size k : ℕ) → 0 < size → slotAt head size k < size
 slot-below head size k h = mod-lt (head + k) h
+
+-- no slot on, and n slots on and then m
+pub slot-here : (head size : ℕ) → head < size → slotAt head size 0 ≡ head
+slot-here head size h = ap (λ (x : ℕ). x % size) (add-zero head) ∙ mod-eq-of-lt h
+
+pub slot-on : (head size n m : ℕ) → slotAt (slotAt head size n) size m ≡ slotAt head size (n + m)
+slot-on head size n m = mod-add-mod (head + n) size m ∙ ap (λ (x : ℕ). x % size) (omega arith)
+
+pub here-is : {head size : ℕ} → head < size → size ≤ mostSlots → SlotIs head size 0 head
+here-is l h = record { is = sym (slot-here _ _ l); below = l; small = h }
+
+pub on-is : {head size n m at r : ℕ} → SlotIs head size n at → SlotIs at size m r → SlotIs head size (n + m) r
+on-is {head} {size} {n} {m} a b = record { is = b .is ∙ ap (λ (s : ℕ). slotAt s size m) (a .is) ∙ slot-on head size n m; below = b .below; small = b .small }
+
+-- what the code makes: a sum below the size is the slot, and one that reaches the size is the slot and a lap
+pub sum-is : {head size k : ℕ} → Step head size k → head + k < size → SlotIs head size k (head + k)
+sum-is s l = record { is = sym (mod-eq-of-lt l); below = l; small = s .size-high }
+
+pub lap-is : {head size k : ℕ} → Step head size k → size ≤ head + k → SlotIs head size k (head + k - size)
+lap-is {head} {size} {k} s g =
+    let less : head + k - size < size = omega (arith, s .head-below, s .near) in
+    record { is = sym (mod-eq-sub-mod g ∙ mod-eq-of-lt less); below = less; small = s .size-high }
 
 -- a sum of less than two laps is itself, or itself less a lap
 pub wrap : (x size : ℕ) → x < size + size → ((x % size ≡ x) × (x < size)) ⊎ ((x % size + size ≡ x) × (size ≤ x))

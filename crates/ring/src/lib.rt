@@ -24,6 +24,15 @@ pub fn slot(head: usize, size: usize, k: usize) -> usize
     if at < size { at } else { at - size }
 }
 
+// The slot after another, for what goes from slot to slot: 0 where the sum reaches the size, and nothing is taken away.
+pub fn next(at: usize, size: usize) -> usize
+    requires { ⌜ Step at size 1 ⌝ }
+    ensures { λ r. ⌜ SlotIs at size 1 r ⌝ }
+{
+    let next = at + 1;
+    if next < size { next } else { 0 }
+}
+
 // The part of a queue record that both queues have.
 pub struct Queue {
     pub queue: usize,

@@ -1,71 +1,41 @@
 -- `fill::put_descriptors` meets its contract.
 -- Assumes nothing.
-use Prim.Native.Nat.{ℕ, _+_, _<_}
-use mathlib.Core.Path.{ap, _∙_}
-use mathlib.Core.List.{[], _∷_}
+use mathlib.Core.Path.{_∙_}
 use native.Mathlib.Omega.{arith}
-use borrow.Author.Needs.{needs}
 use lib.ListN.{length}
-use Rattle.fill.proofs.Pieces.{put-segmented, put-plain}
+use Rattle.fill.proofs.Places.{slots-sum}
+use Rattle.fill.proofs.Pieces.{put-all}
 use Rattle.fill.proofs.put_descriptors.Statement.{statement}
 use Rattle.fill.proofs.put_descriptors.Tie as tie
 
--- less than a lap, with the context descriptor's slot and without it
-fewer : (d : tie.Then1) → length (d .before .before .before .before .args .lengths .now) + 1 < d .before .before .before .before .args .size
-fewer d = rw (d .if1 .taken) at (d .before .before .before .before .pre .fewer)
-
-slot-requires : tie.Need-slot-requires
-slot-requires c κs = let h = fewer c in search needs
-
-segmentation-word-requires : tie.Need-segmentation-word-requires
-segmentation-word-requires c κs = search needs
-
-put-slot-requires : tie.Need-put-slot-requires
-put-slot-requires c κs = omega (arith, c .before .before .before .before .before .before .before .pre)
+put-context-requires : tie.Need-put-context-requires
+put-context-requires c κs =
+    let s = c .before .before .before .before in
+    let sum = slots-sum (s .args .request) (length (s .args .lengths .now)) in
+    (record { head-below = s .pre .start-below; near = omega (arith, sum, s .pre .some, s .pre .fewer); size-high = s .pre .size-high }, s .pre .ring-long)
 
 put-pieces-requires : tie.Need-put-pieces-requires
 put-pieces-requires c κs =
-    let d = c .before .before .before .before .before .before .before in
-    let r = d .before .before .before .before .pre in
+    let put = c .before .before .before .put-context in
+    let s = c .before .before .before .before .before .before .before .before in
     record {
-      ring-long = c .before .before .before .put-slot .kept .0 ∙ r .ring-long;
-      size-high = r .size-high;
-      start-below = c .before .before .before .before .before .before .slot .ensures .below;
-      paired = r .paired;
-      some = r .some;
-      fewer = omega (arith, fewer d);
-      short = r .short;
+      ring-long = put .kept .0 ∙ s .pre .ring-long;
+      size-high = s .pre .size-high;
+      start-below = put .ensures .1 .below;
+      paired = s .pre .paired;
+      some = s .pre .some;
+      fewer = omega (arith, slots-sum (s .args .request) (length (s .args .lengths .now)), s .pre .fewer);
+      short = s .pre .short;
     }
 
-put-pieces-requires-2 : tie.Need-put-pieces-requires-2
-put-pieces-requires-2 c κs = rw (c .before .if1 .left) at (c .before .before .before .before .before .pre)
-
 same-length : tie.Need-same-length
-same-length c = c .before .before .put-pieces .kept .0 ∙ c .before .before .before .before .before .before .put-slot .kept .0
+same-length c = c .before .before .put-pieces .kept .0 ∙ c .before .before .before .before .before .before .put-context .kept .0
 
 returns : tie.Need-returns
 returns c =
-    let s = c .before .before .before .before .before .before .before .before .before .before .before .before .before .before in
-    put-segmented (s .args .request) (s .args .addresses .now) (s .args .lengths .now) (s .args .size) (s .args .tail) (s .args .ring .now) (c .before .before .before .before .before .before .before .before .before .before .if1 .taken) (s .pre .start-below) (c .before .before .before .before .before .before .before .before .before .slot .ensures .is) (ap (λ (w : ℕ). 0 ∷ w ∷ []) (c .before .before .before .before .before .before .before .before .segmentation-word .ensures)) (c .before .before .before .before .before .before .put-slot .ensures) (c .before .before .put-pieces .ensures)
-
-same-length-2 : tie.Need-same-length-2
-same-length-2 c = c .before .before .put-pieces2 .kept .0
-
-returns-2 : tie.Need-returns-2
-returns-2 c =
-    let s = c .before .before .before .before .before .before .before .before in
-    put-plain (s .args .request) (s .args .addresses .now) (s .args .lengths .now) (s .args .size) (s .args .tail) (s .args .ring .now) (c .before .before .before .before .if1 .left) (c .before .before .put-pieces2 .ensures)
+    let put = c .before .before .before .before .before .before in
+    let s = put .before .before .before .before .before in
+    put-all (s .args .request) (s .args .addresses .now) (s .args .lengths .now) (s .args .size) (s .args .tail) (s .args .ring .now) (put .put-context .ensures .0) (put .put-context .ensures .1 .is) (c .before .before .put-pieces .ensures)
 
 pub put-descriptors-spec : {M : Type 1} → statement M
-put-descriptors-spec =
-    tie.close
-    (tie.spec
-    slot-requires
-    segmentation-word-requires
-    put-slot-requires
-    put-pieces-requires
-    put-pieces-requires-2
-    same-length
-    returns
-    same-length-2
-    returns-2)
+put-descriptors-spec = tie.close (tie.spec put-context-requires put-pieces-requires same-length returns)

@@ -1,11 +1,12 @@
--- `fill::put_leading` meets its contract. The loop's invariant: the ring has the first i pieces.
+-- `fill::put_leading` meets its contract. The loop's invariant: the ring has the first i pieces, and `at` is the slot behind them.
 -- Assumes nothing.
 use Prim.Native.Nat.{_-_, _≤_}
 use mathlib.Core.Path.{_≡_, sym, ap, _∙_}
 use native.Mathlib.Omega.{arith}
-use borrow.Author.Needs.{needs}
 use lib.ListN.{length}
 use Rattle.ring.specs.Memory.{storeRun}
+use Rattle.ring.specs.Steps.{SlotIs}
+use Rattle.ring.proofs.Steps.{here-is, on-is}
 use Rattle.ring.proofs.Rows.{row-none, row-length}
 use Rattle.fill.specs.Steps.{leadingNumbers}
 use Rattle.fill.proofs.Pieces.{put-next}
@@ -13,19 +14,19 @@ use Rattle.fill.proofs.put_leading.Statement.{statement}
 use Rattle.fill.proofs.put_leading.Tie as tie
 
 abbrev Inv-loop : tie.InvT-loop
-Inv-loop ring₀ size start addresses lengths alike last i₀ ring i = (i ≤ last) × (ring ≡ storeRun 2 size (leadingNumbers alike addresses lengths) ring₀ start i)
+Inv-loop ring₀ size start addresses lengths alike last at₀ i₀ ring at i =
+    (i ≤ last) × (ring ≡ storeRun 2 size (leadingNumbers alike addresses lengths) ring₀ start i) × SlotIs start size i at
 
 abbrev μ-loop : tie.MeasureT-loop
-μ-loop ring₀ size start addresses lengths alike last i₀ ring i = last - i
+μ-loop ring₀ size start addresses lengths alike last at₀ i₀ ring at i = last - i
 
 sub-last : tie.Need-sub-last Inv-loop μ-loop
 sub-last c = omega arith
 
 loop-holds : tie.Need-loop-holds Inv-loop μ-loop
-loop-holds c = (omega arith, sym (row-none 2 _ _ _ _))
-
-slot-requires : tie.Need-slot-requires Inv-loop μ-loop
-slot-requires c κs = search needs
+loop-holds c =
+    let room = c .before .before .before .pre in
+    (omega arith, sym (row-none 2 _ _ _ _), here-is (room .start-below) (room .size-high))
 
 mul-put-slot : tie.Need-mul-put-slot Inv-loop μ-loop
 mul-put-slot c = omega arith
@@ -40,7 +41,15 @@ shared-slice-read-put-slot-2 : tie.Need-shared-slice-read-put-slot-2 Inv-loop μ
 shared-slice-read-put-slot-2 c = omega arith
 
 put-slot-requires : tie.Need-put-slot-requires Inv-loop μ-loop
-put-slot-requires c κs = omega (arith, ap length (c .before .before .before .before .before .loop .inv .1) ∙ row-length 2 _ _ _ _ (c .before .before .before .before .before .loop .i))
+put-slot-requires c κs =
+    let l = c .before .before .before .before .loop in
+    omega (arith, ap length (l .inv .1) ∙ row-length 2 _ _ _ _ (l .i), l .inv .2 .below)
+
+next-requires : tie.Need-next-requires Inv-loop μ-loop
+next-requires c κs =
+    let a = c .before .before .before .before .before .before .before in
+    let room = a .before .before .before .before .pre in
+    record { head-below = a .loop .inv .2 .below; near = omega (arith, room .fewer, room .some); size-high = room .size-high }
 
 add-i : tie.Need-add-i Inv-loop μ-loop
 add-i c = omega arith
@@ -52,7 +61,8 @@ loop-again : tie.Need-loop-again Inv-loop μ-loop
 loop-again c =
     let a = c .before .before .before .before .before .before .before .before in
     let s = a .before .before .before .before in
-    (omega arith, put-next (s .args .alike) (s .args .addresses .now) (s .args .lengths .now) (s .args .size) (s .args .start) (s .args .ring .now) (a .loop .i) (a .loop .inv .1) (c .before .before .before .before .before .before .slot .ensures .is) (s .pre .short (a .loop .i) (omega arith)) (c .before .before .put-slot .ensures))
+    let behind = a .loop .inv .2 in
+    (omega arith, put-next (s .args .alike) (s .args .addresses .now) (s .args .lengths .now) (s .args .size) (s .args .start) (s .args .ring .now) (a .loop .i) (a .loop .inv .1) (behind .is) (s .pre .short (a .loop .i) (omega arith)) (c .before .before .before .put-slot .ensures), on-is behind (c .next .ensures))
 
 same-length : tie.Need-same-length Inv-loop μ-loop
 same-length c = ap length (c .before .loop .inv .1) ∙ row-length 2 _ _ _ _ (c .before .loop .i)
@@ -60,7 +70,7 @@ same-length c = ap length (c .before .loop .inv .1) ∙ row-length 2 _ _ _ _ (c 
 returns : tie.Need-returns Inv-loop μ-loop
 returns c =
     let e : c .before .loop .i ≡ length (c .before .before .before .before .before .args .lengths .now) - 1 = omega arith in
-    rw e at (c .before .loop .inv .1)
+    (rw e at (c .before .loop .inv .1), rw e at (c .before .loop .inv .2))
 
 pub put-leading-spec : {M : Type 1} → statement M
 put-leading-spec =
@@ -70,12 +80,12 @@ put-leading-spec =
     μ-loop
     sub-last
     loop-holds
-    slot-requires
     mul-put-slot
     shared-slice-read-put-slot
     mul-put-slot-2
     shared-slice-read-put-slot-2
     put-slot-requires
+    next-requires
     add-i
     loop-less
     loop-again

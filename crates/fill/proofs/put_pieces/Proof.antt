@@ -10,9 +10,6 @@ use Rattle.fill.proofs.put_pieces.Tie as tie
 sub-last : tie.Need-sub-last
 sub-last c = omega arith
 
-slot-requires : tie.Need-slot-requires
-slot-requires c κs = search needs
-
 mul-piece-word : tie.Need-mul-piece-word
 mul-piece-word c = omega arith
 
@@ -26,7 +23,7 @@ piece-word-requires-2 : tie.Need-piece-word-requires-2
 piece-word-requires-2 c κs = search needs
 
 put-leading-requires : tie.Need-put-leading-requires
-put-leading-requires c κs = c .before .before .before .before .before .before .before .before .pre
+put-leading-requires c κs = c .before .before .before .before .before .before .before .pre
 
 mul-put-slot : tie.Need-mul-put-slot
 mul-put-slot c = omega arith
@@ -35,22 +32,24 @@ shared-slice-read-put-slot : tie.Need-shared-slice-read-put-slot
 shared-slice-read-put-slot c = omega arith
 
 put-slot-requires : tie.Need-put-slot-requires
-put-slot-requires c κs = omega (arith, c .before .before .before .before .put-leading .kept .0)
+put-slot-requires c κs =
+    let led = c .before .before .before .before .put-leading in
+    omega (arith, led .kept .0, led .ensures .1 .below)
 
 same-length : tie.Need-same-length
 same-length c = c .before .before .put-slot .kept .0 ∙ c .before .before .before .before .before .before .before .put-leading .kept .0
 
 returns : tie.Need-returns
 returns c =
-    let s = c .before .before .before .before .before .before .before .before .before .before .before .before .before .before .before .before in
-    put-last (s .args .request) (s .args .addresses .now) (s .args .lengths .now) (s .args .size) (s .args .start) (s .args .ring .now) (s .pre .some) (c .before .before .before .before .before .before .before .before .before .piece-word2 .ensures) (c .before .before .before .before .before .before .before .put-leading .ensures) (c .before .before .before .before .before .before .before .before .before .before .before .before .slot .ensures .is) (c .before .before .before .before .before .before .before .before .before .before .piece-word .ensures) (c .before .before .put-slot .ensures)
+    let a = c .before .before .before .before .before .before .before in
+    let s = a .before .before .before .before .before .before .before .before in
+    put-last (s .args .request) (s .args .addresses .now) (s .args .lengths .now) (s .args .size) (s .args .start) (s .args .ring .now) (s .pre .some) (a .before .before .piece-word2 .ensures) (a .put-leading .ensures .0) (a .put-leading .ensures .1 .is) (a .before .before .before .piece-word .ensures) (c .before .before .put-slot .ensures)
 
 pub put-pieces-spec : {M : Type 1} → statement M
 put-pieces-spec =
     tie.close
     (tie.spec
     sub-last
-    slot-requires
     mul-piece-word
     shared-slice-read-piece-word
     piece-word-requires

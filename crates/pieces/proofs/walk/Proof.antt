@@ -33,7 +33,7 @@ shared-slice-read-address-wrong : tie.Need-shared-slice-read-address-wrong Inv-l
 shared-slice-read-address-wrong c = omega arith
 
 address-wrong-requires : tie.Need-address-wrong-requires Inv-loop μ-loop
-address-wrong-requires c κs = search needs
+address-wrong-requires c κs = within-is 1 mostLength _ (c .before .if1 .taken) .0
 
 add-total : tie.Need-add-total Inv-loop μ-loop
 add-total c =

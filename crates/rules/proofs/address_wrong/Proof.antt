@@ -1,27 +1,29 @@
--- `rules::address_wrong` meets its contract: the difference that the code makes and the sum of the definition are judged alike.
+-- `rules::address_wrong` meets its contract: the reach that the code makes and the sum of the definition are judged alike.
 -- Assumes nothing.
-use Prim.Native.Nat.{_+_, _-_, _^_}
+use Prim.Native.Nat.{ℕ, _+_, _-_, _^_, _≤_}
+use mathlib.Core.Path.{_≡_, refl}
+use mathlib.Core.Bool.{Bool, true, false, cond, _||_}
 use native.Mathlib.Omega.{arith}
 use borrow.Author.Needs.{needs}
-use borrow.Author.Tests.{eq-eqb, ne-eqb}
+use borrow.Author.Tests.{lt-ltb, eqb-false}
+use lib.Dec.{eqb, ltb}
+use Rattle.rules.specs.Address.{addressWrong}
 use Rattle.rules.proofs.Tests.{ltb-same}
 use Rattle.rules.proofs.address_wrong.Statement.{statement}
 use Rattle.rules.proofs.address_wrong.Tie as tie
 
-sub-result : tie.Need-sub-result
-sub-result c = search needs
+beyond : (a n : ℕ) → 1 ≤ n → ltb (cond (eqb a 0) 0 (2 ^ 64 - a)) n ≡ addressWrong a n
+beyond a n some = by (eqb a 0) refl
+  where
+    by : (b : Bool) → eqb a 0 ≡ b → ltb (cond b 0 (2 ^ 64 - a)) n ≡ b || ltb (2 ^ 64) (a + n)
+    by true e = lt-ltb 0 n some
+    by false e = let pos = eqb-false a 0 e in ltb-same (2 ^ 64 - a) n (2 ^ 64) (a + n) (λ h. omega arith) (λ h. omega arith)
 
-sub-result-2 : tie.Need-sub-result-2
-sub-result-2 c = search needs
+reach-requires : tie.Need-reach-requires
+reach-requires c κs = search needs
 
 returns : tie.Need-returns
-returns c = rw (eq-eqb _ _ (c .if1 .taken))
-
-returns-2 : tie.Need-returns-2
-returns-2 c =
-    let a = c .before .args .address in
-    let n = c .before .args .length in
-    rw (ne-eqb _ _ (c .if1 .left)) (ltb-same (2 ^ 64 - 1 - n) (a - 1) (2 ^ 64) (a + n) (λ h. omega arith) (λ h. omega arith))
+returns c = rw (c .reach .ensures) (beyond (c .before .args .address) (c .before .args .length) (c .before .pre))
 
 pub address-wrong-spec : {M : Type 1} → statement M
-address-wrong-spec = tie.close (tie.spec sub-result sub-result-2 returns returns-2)
+address-wrong-spec = tie.close (tie.spec reach-requires returns)

@@ -3,7 +3,7 @@
 use Rattle.receive.specs.Post.{postAnswer}
 use borrow.Author.Tests.{eq-eqb, ne-eqb}
 use native.Mathlib.Omega.{arith}
-use Rattle.receive.proofs.Laws.{lent}
+use Rattle.receive.proofs.Laws.{lent, lent-buffer}
 use mathlib.Core.Path.{sym, _∙_}
 use borrow.Author.Needs.{needs}
 use Rattle.receive.proofs.RxQueue.post_answer.Statement.{statement}
@@ -13,7 +13,8 @@ lent-ok-requires : tie.Need-lent-ok-requires
 lent-ok-requires c κs = search needs
 
 address-wrong-requires : tie.Need-address-wrong-requires
-address-wrong-requires c κs = search needs
+address-wrong-requires c κs =
+    let b = lent-buffer (c .before .before .args .self) _ _ (sym (c .before .lent-ok .ensures) ∙ c .if1 .taken) in omega arith
 
 sub-if3 : tie.Need-sub-if3
 sub-if3 c = let l = lent _ _ _ (sym (c .before .before .before .before .lent-ok .ensures) ∙ c .before .before .before .if1 .taken) in omega arith
