@@ -8,6 +8,8 @@ use lib.ListN.{length, getD}
 use Rattle.field.specs.Field.{wordOf}
 use Rattle.descriptor.specs.Words.{lengthLine}
 use Rattle.ring.specs.Slots.{mostSlots}
+use Rattle.ring.specs.Memory.{storeRun}
+use Rattle.ring.specs.Steps.{SlotIs}
 
 -- a ring of a size, a slot of it to begin at, and so many slots, less than a lap, to take
 pub record Room (ring addresses lengths : List ℕ) (size start slots : ℕ) : Type 0 where
@@ -22,3 +24,8 @@ pub record Room (ring addresses lengths : List ℕ) (size start slots : ℕ) : T
 -- a piece before the last one: word 1 is what is alike on all of them, joined with the piece's length
 abbrev pub leadingNumbers : ℕ → List ℕ → List ℕ → ℕ → List ℕ
 leadingNumbers alike addresses lengths i = getD addresses i 0 ∷ bitOr alike (wordOf (lengthLine (getD lengths i 0) ∷ [])) ∷ []
+
+-- the first n slots of a row are stored from slot start on, and r is the slot behind them
+pub record Filled (before after : List ℕ) (numbers : ℕ → List ℕ) (size start n r : ℕ) : Type 0 where
+  pub stored : after ≡ storeRun 2 size numbers before start n
+  pub behind : SlotIs start size n r

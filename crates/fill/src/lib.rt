@@ -4,10 +4,10 @@ ghost use mathlib.Core.List.{[], _∷_};
 ghost use Prim.Native.Nat.{_+_, _-_, _*_, _<_};
 ghost use lib.ListN.{length};
 ghost use Rattle.ring.specs.Memory.{store, storeRun};
-ghost use Rattle.ring.specs.Steps.{Step, SlotIs};
+ghost use Rattle.ring.specs.Steps.{Step};
 ghost use Rattle.request.specs.Request.{slotsOf};
 ghost use Rattle.fill.specs.Descriptors.{pieceNumbers, contextNumbers, descriptor};
-ghost use Rattle.fill.specs.Steps.{Room, leadingNumbers};
+ghost use Rattle.fill.specs.Steps.{Room, Filled, leadingNumbers};
 use descriptor::LENGTH;
 use request::Request;
 use request::piece_word;
@@ -32,8 +32,7 @@ fn put_leading(
     alike: u64,
 ) -> usize
     requires { ⌜ Room (now ring) (now addresses) (now lengths) size start (length (now lengths)) ⌝ }
-    ensures stored { λ _. ⌜ now (ring .exit) ≡ storeRun 2 size (leadingNumbers alike (now (addresses .entry)) (now (lengths .entry))) (now (ring .entry)) start (length (now (lengths .entry)) - 1) ⌝ }
-    ensures behind { λ r. ⌜ SlotIs start size (length (now (lengths .entry)) - 1) r ⌝ }
+    ensures { λ r. ⌜ Filled (now (ring .entry)) (now (ring .exit)) (leadingNumbers alike (now (addresses .entry)) (now (lengths .entry))) size start (length (now (lengths .entry)) - 1) r ⌝ }
 {
     let last = lengths.len() - 1;
     let mut at = start;
@@ -69,8 +68,7 @@ fn put_pieces(
 fn put_context(ring: &mut [u64], size: usize, tail: usize, request: Request) -> usize
     requires { ⌜ Step tail size 1 ⌝ }
     requires { ⌜ length (now ring) ≡ 2 * size ⌝ }
-    ensures stored { λ _. ⌜ now (ring .exit) ≡ storeRun 2 size (λ _. contextNumbers request) (now (ring .entry)) tail (slotsOf request 0) ⌝ }
-    ensures behind { λ r. ⌜ SlotIs tail size (slotsOf request 0) r ⌝ }
+    ensures { λ r. ⌜ Filled (now (ring .entry)) (now (ring .exit)) (λ _. contextNumbers request) size tail (slotsOf request 0) r ⌝ }
 {
     if request.segmented {
         let word = segmentation_word(request);

@@ -31,6 +31,7 @@ pub kept : (q : RxQueue) → recordOk q ≡ true → Shared (q .shared)
 unfolding recordOk
 kept q e = shared (q .shared) (both (sharedOk (q .shared)) (bufferOk (q .buffer)) e .0)
 
+-- the buffer size has its least
 buffer-least : (q : RxQueue) → recordOk q ≡ true → leastBuffer ≤ q .buffer
 unfolding recordOk
 buffer-least q e = steps-is leastBuffer mostBuffer bufferStep (q .buffer) (both (sharedOk (q .shared)) (bufferOk (q .buffer)) e .1) .least

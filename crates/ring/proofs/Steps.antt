@@ -1,4 +1,4 @@
--- The step round a ring: a slot number is below the size, two distances below a lap give two slots, and distance and slot undo each other.
+-- The step round a ring: a slot number is below the size, steps add up, two distances below a lap give two slots, and distance and slot undo each other.
 -- Assumes nothing.
 use Prim.Native.Nat.{ℕ, _+_, _-_, _%_, _≤_, _<_}
 use mathlib.Core.Path.{_≡_, sym, ap, _∙_}
@@ -25,25 +25,25 @@ here-is l h = record { is = sym (slot-here _ _ l); below = l; small = h }
 pub on-is : {head size n m at r : ℕ} → SlotIs head size n at → SlotIs at size m r → SlotIs head size (n + m) r
 on-is {head} {size} {n} {m} a b = record { is = b .is ∙ ap (λ (s : ℕ). slotAt s size m) (a .is) ∙ slot-on head size n m; below = b .below; small = b .small }
 
--- what the code makes: a sum below the size is the slot, and one that reaches the size is the slot and a lap
-pub sum-is : {head size k : ℕ} → Step head size k → head + k < size → SlotIs head size k (head + k)
-sum-is s l = record { is = sym (mod-eq-of-lt l); below = l; small = s .size-high }
-
-pub lap-is : {head size k : ℕ} → Step head size k → size ≤ head + k → SlotIs head size k (head + k - size)
-lap-is {head} {size} {k} s g =
-    let less : head + k - size < size = omega (arith, s .head-below, s .near) in
-    record { is = sym (mod-eq-sub-mod g ∙ mod-eq-of-lt less); below = less; small = s .size-high }
-
 -- a sum of less than two laps is itself, or itself less a lap
+less-lap : {x size : ℕ} → size ≤ x → x < size + size → x % size ≡ x - size
+less-lap g h = mod-eq-sub-mod g ∙ mod-eq-of-lt (omega arith)
+
 pub wrap : (x size : ℕ) → x < size + size → ((x % size ≡ x) × (x < size)) ⊎ ((x % size + size ≡ x) × (size ≤ x))
 wrap x size h = go (decLt x size)
   where
     go : Dec (x < size) → ((x % size ≡ x) × (x < size)) ⊎ ((x % size + size ≡ x) × (size ≤ x))
     go (yes l) = inl (mod-eq-of-lt l, l)
-    go (no l) =
-        let g : size ≤ x = omega arith in
-        let m : x - size < size = omega arith in
-        inr (omega (arith, mod-eq-sub-mod g ∙ mod-eq-of-lt m), g)
+    go (no l) = let g : size ≤ x = omega arith in inr (omega (arith, less-lap g h), g)
+
+-- so the code may add and compare
+pub sum-is : {head size k : ℕ} → Step head size k → head + k < size → SlotIs head size k (head + k)
+sum-is s l = record { is = sym (mod-eq-of-lt l); below = l; small = s .size-high }
+
+pub lap-is : {head size k : ℕ} → Step head size k → size ≤ head + k → SlotIs head size k (head + k - size)
+lap-is {head} {size} {k} s g =
+    let two : head + k < size + size = omega (arith, s .head-below, s .near) in
+    record { is = sym (less-lap g two); below = omega (arith, two); small = s .size-high }
 
 -- a slot number and a lap
 lap : (s size : ℕ) → s < size → (s + size) % size ≡ s

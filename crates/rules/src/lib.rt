@@ -15,8 +15,7 @@ fn reach(address: u64) -> u64
     if address == 0 { 0 } else { LAST - address + 1 }
 }
 
-// Answer 2's cause, of what has one byte or more. The sum is not made, since it may not fit; and with address 0 among the rest, one comparison
-// is enough.
+// Answer 2's cause, for one byte or more. The sum is not made, since it may not fit; and as nothing fits at address 0, one comparison says both.
 pub fn address_wrong(address: u64, length: u64) -> bool
     requires { ⌜ 1 ≤ length ⌝ }
     ensures { λ r. ⌜ r ≡ addressWrong address length ⌝ }

@@ -28,13 +28,14 @@ returns c =
     let t = word .before .if1 .taken in
     let s = word .before .before .before in
     let context = ap (λ (w : ℕ). 0 ∷ w ∷ []) (word .segmentation-word .ensures) in
-    (put-context (s .args .request) (s .args .size) (s .args .tail) (s .args .ring .now) t (s .pre .0 .head-below) context (c .before .before .before .put-slot .ensures), rw t (c .next .ensures))
+    let stored = put-context (s .args .request) (s .args .size) (s .args .tail) (s .args .ring .now) t (s .pre .0 .head-below) context (c .before .before .before .put-slot .ensures) in
+    record { stored = stored; behind = rw t (c .next .ensures) }
 
 returns-2 : tie.Need-returns-2
 returns-2 c =
     let t = c .if1 .left in
     let s = c .before .before in
-    (put-none (s .args .request) (s .args .size) (s .args .tail) (s .args .ring .now) t, rw t (here-is (s .pre .0 .head-below) (s .pre .0 .size-high)))
+    record { stored = put-none (s .args .request) (s .args .size) (s .args .tail) (s .args .ring .now) t; behind = rw t (here-is (s .pre .0 .head-below) (s .pre .0 .size-high)) }
 
 pub put-context-spec : {M : Type 1} → statement M
 put-context-spec =

@@ -21,7 +21,7 @@ put-pieces-requires c κs =
     record {
       ring-long = put .kept .0 ∙ s .pre .ring-long;
       size-high = s .pre .size-high;
-      start-below = put .ensures .1 .below;
+      start-below = put .ensures .behind .below;
       paired = s .pre .paired;
       some = s .pre .some;
       fewer = omega (arith, slots-sum (s .args .request) (length (s .args .lengths .now)), s .pre .fewer);
@@ -35,7 +35,7 @@ returns : tie.Need-returns
 returns c =
     let put = c .before .before .before .before .before .before in
     let s = put .before .before .before .before .before in
-    put-all (s .args .request) (s .args .addresses .now) (s .args .lengths .now) (s .args .size) (s .args .tail) (s .args .ring .now) (put .put-context .ensures .0) (put .put-context .ensures .1 .is) (c .before .before .put-pieces .ensures)
+    put-all (s .args .request) (s .args .addresses .now) (s .args .lengths .now) (s .args .size) (s .args .tail) (s .args .ring .now) (put .put-context .ensures .stored) (put .put-context .ensures .behind .is) (c .before .before .put-pieces .ensures)
 
 pub put-descriptors-spec : {M : Type 1} → statement M
 put-descriptors-spec = tie.close (tie.spec put-context-requires put-pieces-requires same-length returns)

@@ -4,18 +4,16 @@ use Prim.Native.Nat.{_-_, _≤_}
 use mathlib.Core.Path.{_≡_, sym, ap, _∙_}
 use native.Mathlib.Omega.{arith}
 use lib.ListN.{length}
-use Rattle.ring.specs.Memory.{storeRun}
-use Rattle.ring.specs.Steps.{SlotIs}
 use Rattle.ring.proofs.Steps.{here-is, on-is}
 use Rattle.ring.proofs.Rows.{row-none, row-length}
-use Rattle.fill.specs.Steps.{leadingNumbers}
+use Rattle.fill.specs.Steps.{Filled, leadingNumbers}
 use Rattle.fill.proofs.Pieces.{put-next}
 use Rattle.fill.proofs.put_leading.Statement.{statement}
 use Rattle.fill.proofs.put_leading.Tie as tie
 
 abbrev Inv-loop : tie.InvT-loop
 Inv-loop ring₀ size start addresses lengths alike last at₀ i₀ ring at i =
-    (i ≤ last) × (ring ≡ storeRun 2 size (leadingNumbers alike addresses lengths) ring₀ start i) × SlotIs start size i at
+    (i ≤ last) × Filled ring₀ ring (leadingNumbers alike addresses lengths) size start i at
 
 abbrev μ-loop : tie.MeasureT-loop
 μ-loop ring₀ size start addresses lengths alike last at₀ i₀ ring at i = last - i
@@ -26,7 +24,7 @@ sub-last c = omega arith
 loop-holds : tie.Need-loop-holds Inv-loop μ-loop
 loop-holds c =
     let room = c .before .before .before .pre in
-    (omega arith, sym (row-none 2 _ _ _ _), here-is (room .start-below) (room .size-high))
+    (omega arith, record { stored = sym (row-none 2 _ _ _ _); behind = here-is (room .start-below) (room .size-high) })
 
 mul-put-slot : tie.Need-mul-put-slot Inv-loop μ-loop
 mul-put-slot c = omega arith
@@ -43,13 +41,13 @@ shared-slice-read-put-slot-2 c = omega arith
 put-slot-requires : tie.Need-put-slot-requires Inv-loop μ-loop
 put-slot-requires c κs =
     let l = c .before .before .before .before .loop in
-    omega (arith, ap length (l .inv .1) ∙ row-length 2 _ _ _ _ (l .i), l .inv .2 .below)
+    omega (arith, ap length (l .inv .1 .stored) ∙ row-length 2 _ _ _ _ (l .i), l .inv .1 .behind .below)
 
 next-requires : tie.Need-next-requires Inv-loop μ-loop
 next-requires c κs =
     let a = c .before .before .before .before .before .before .before in
     let room = a .before .before .before .before .pre in
-    record { head-below = a .loop .inv .2 .below; near = omega (arith, room .fewer, room .some); size-high = room .size-high }
+    record { head-below = a .loop .inv .1 .behind .below; near = omega (arith, room .fewer, room .some); size-high = room .size-high }
 
 add-i : tie.Need-add-i Inv-loop μ-loop
 add-i c = omega arith
@@ -61,16 +59,17 @@ loop-again : tie.Need-loop-again Inv-loop μ-loop
 loop-again c =
     let a = c .before .before .before .before .before .before .before .before in
     let s = a .before .before .before .before in
-    let behind = a .loop .inv .2 in
-    (omega arith, put-next (s .args .alike) (s .args .addresses .now) (s .args .lengths .now) (s .args .size) (s .args .start) (s .args .ring .now) (a .loop .i) (a .loop .inv .1) (behind .is) (s .pre .short (a .loop .i) (omega arith)) (c .before .before .before .put-slot .ensures), on-is behind (c .next .ensures))
+    let filled = a .loop .inv .1 in
+    let stored = put-next (s .args .alike) (s .args .addresses .now) (s .args .lengths .now) (s .args .size) (s .args .start) (s .args .ring .now) (a .loop .i) (filled .stored) (filled .behind .is) (s .pre .short (a .loop .i) (omega arith)) (c .before .before .before .put-slot .ensures) in
+    (omega arith, record { stored = stored; behind = on-is (filled .behind) (c .next .ensures) })
 
 same-length : tie.Need-same-length Inv-loop μ-loop
-same-length c = ap length (c .before .loop .inv .1) ∙ row-length 2 _ _ _ _ (c .before .loop .i)
+same-length c = ap length (c .before .loop .inv .1 .stored) ∙ row-length 2 _ _ _ _ (c .before .loop .i)
 
 returns : tie.Need-returns Inv-loop μ-loop
 returns c =
     let e : c .before .loop .i ≡ length (c .before .before .before .before .before .args .lengths .now) - 1 = omega arith in
-    (rw e at (c .before .loop .inv .1), rw e at (c .before .loop .inv .2))
+    rw e at (c .before .loop .inv .1)
 
 pub put-leading-spec : {M : Type 1} → statement M
 put-leading-spec =

@@ -34,7 +34,7 @@ shared-slice-read-put-slot c = omega arith
 put-slot-requires : tie.Need-put-slot-requires
 put-slot-requires c κs =
     let led = c .before .before .before .before .put-leading in
-    omega (arith, led .kept .0, led .ensures .1 .below)
+    omega (arith, led .kept .0, led .ensures .behind .below)
 
 same-length : tie.Need-same-length
 same-length c = c .before .before .put-slot .kept .0 ∙ c .before .before .before .before .before .before .before .put-leading .kept .0
@@ -43,7 +43,7 @@ returns : tie.Need-returns
 returns c =
     let a = c .before .before .before .before .before .before .before in
     let s = a .before .before .before .before .before .before .before .before in
-    put-last (s .args .request) (s .args .addresses .now) (s .args .lengths .now) (s .args .size) (s .args .start) (s .args .ring .now) (s .pre .some) (a .before .before .piece-word2 .ensures) (a .put-leading .ensures .0) (a .put-leading .ensures .1 .is) (a .before .before .before .piece-word .ensures) (c .before .before .put-slot .ensures)
+    put-last (s .args .request) (s .args .addresses .now) (s .args .lengths .now) (s .args .size) (s .args .start) (s .args .ring .now) (s .pre .some) (a .before .before .piece-word2 .ensures) (a .put-leading .ensures .stored) (a .put-leading .ensures .behind .is) (a .before .before .before .piece-word .ensures) (c .before .before .put-slot .ensures)
 
 pub put-pieces-spec : {M : Type 1} → statement M
 put-pieces-spec =

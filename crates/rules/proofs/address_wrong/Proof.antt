@@ -1,11 +1,11 @@
 -- `rules::address_wrong` meets its contract: the reach that the code makes and the sum of the definition are judged alike.
 -- Assumes nothing.
 use Prim.Native.Nat.{ℕ, _+_, _-_, _^_, _≤_}
-use mathlib.Core.Path.{_≡_, refl}
+use mathlib.Core.Path.{_≡_}
 use mathlib.Core.Bool.{Bool, true, false, cond, _||_}
 use native.Mathlib.Omega.{arith}
 use borrow.Author.Needs.{needs}
-use borrow.Author.Tests.{lt-ltb, eqb-false}
+use borrow.Author.Tests.{lt-ltb}
 use lib.Dec.{eqb, ltb}
 use Rattle.rules.specs.Address.{addressWrong}
 use Rattle.rules.proofs.Tests.{ltb-same}
@@ -13,11 +13,11 @@ use Rattle.rules.proofs.address_wrong.Statement.{statement}
 use Rattle.rules.proofs.address_wrong.Tie as tie
 
 beyond : (a n : ℕ) → 1 ≤ n → ltb (cond (eqb a 0) 0 (2 ^ 64 - a)) n ≡ addressWrong a n
-beyond a n some = by (eqb a 0) refl
+beyond a n some = go (eqb a 0)
   where
-    by : (b : Bool) → eqb a 0 ≡ b → ltb (cond b 0 (2 ^ 64 - a)) n ≡ b || ltb (2 ^ 64) (a + n)
-    by true e = lt-ltb 0 n some
-    by false e = let pos = eqb-false a 0 e in ltb-same (2 ^ 64 - a) n (2 ^ 64) (a + n) (λ h. omega arith) (λ h. omega arith)
+    go : (b : Bool) → ltb (cond b 0 (2 ^ 64 - a)) n ≡ b || ltb (2 ^ 64) (a + n)
+    go true = lt-ltb 0 n some
+    go false = ltb-same (2 ^ 64 - a) n (2 ^ 64) (a + n) (λ h. omega arith) (λ h. omega arith)
 
 reach-requires : tie.Need-reach-requires
 reach-requires c κs = search needs
