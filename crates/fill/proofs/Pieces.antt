@@ -18,11 +18,12 @@ use Rattle.ring.proofs.Rows.{row-none, row-more}
 use Rattle.descriptor.specs.Words.{dataWord, lengthLine}
 use Rattle.request.specs.declared.Request.{Request}
 use Rattle.request.specs.Request.{slotsOf, dataOf}
+use Rattle.request.proofs.Slots.{slots-sum}
 use Rattle.fill.specs.Descriptors.{pieceNumbers, contextNumbers, descriptor}
 use Rattle.fill.specs.Steps.{leadingNumbers}
 use Rattle.fill.proofs.Rows.{row-agree, row-join}
 use Rattle.fill.proofs.Words.{with-length}
-use Rattle.fill.proofs.Places.{slots-sum, context-at, piece-at}
+use Rattle.fill.proofs.Places.{context-at, piece-at}
 
 -- one piece more before the last, as the loop goes on: `alike | length << 34`
 pub put-next : (alike : ℕ) (addresses lengths : List ℕ) (size start : ℕ) (ring : List ℕ) (i : ℕ) {slot : ℕ} {ring₁ ring₂ : List ℕ}

@@ -1,11 +1,11 @@
 -- Which descriptor of a send stands where: piece i comes after as many slots as i pieces take, and the context descriptor first.
 -- Assumes nothing.
 use Prim.Native.Nat.{ℕ, _+_, _-_, _<_}
-use mathlib.Core.Path.{_≡_, refl, ap}
+use mathlib.Core.Path.{_≡_, refl, sym, ap}
 use mathlib.Core.Bool.{Bool, true, false, cond}
 use mathlib.Core.List.{List}
 use native.Mathlib.Omega.{arith}
-use borrow.Author.Tests.{eq-eqb, ne-eqb}
+use borrow.Author.Tests.{ne-eqb}
 use lib.Dec.{eqb}
 use lib.ListN.{length}
 use Rattle.request.specs.declared.Request.{Request}
@@ -20,14 +20,6 @@ slots-more request {i} {n} l = go (request .segmented)
     go true = omega arith
     go false = l
 
--- those of the pieces come on top of the one before them, if there is one
-pub slots-sum : (request : Request) (n : ℕ) → slotsOf request 0 + n ≡ slotsOf request n
-slots-sum request n = go (request .segmented)
-  where
-    go : (b : Bool) → cond b (0 + 1) 0 + n ≡ cond b (n + 1) n
-    go true = omega arith
-    go false = omega arith
-
 module _ (request : Request) (addresses lengths : List ℕ) where
   pub two-words : (k : ℕ) → length (descriptor request addresses lengths k) ≡ 2
   two-words k = go (request .segmented) (eqb k 0)
@@ -41,11 +33,11 @@ module _ (request : Request) (addresses lengths : List ℕ) where
   context-first t = rw t
 
   pub context-at : (k : ℕ) → k < slotsOf request 0 → contextNumbers request ≡ descriptor request addresses lengths k
-  context-at k l = go (request .segmented) l
+  context-at k l = go (request .segmented) refl l
     where
-      go : (b : Bool) → k < cond b (0 + 1) 0 → contextNumbers request ≡ cond b (cond (eqb k 0) (contextNumbers request) (pieceNumbers request addresses lengths (k - 1))) (pieceNumbers request addresses lengths k)
-      go true h = rw (eq-eqb k 0 (omega arith))
-      go false h = absurd (omega arith)
+      go : (b : Bool) → request .segmented ≡ b → k < cond b (0 + 1) 0 → contextNumbers request ≡ descriptor request addresses lengths k
+      go true t h = let first : k ≡ 0 = omega arith in rw first (sym (context-first t))
+      go false t h = absurd (omega arith)
 
   -- a piece after the context descriptor
   after-context : (k : ℕ) → cond (eqb (k + 1) 0) (contextNumbers request) (pieceNumbers request addresses lengths (k + 1 - 1)) ≡ pieceNumbers request addresses lengths k

@@ -27,29 +27,30 @@ pub fresh-queue : (queue size buffer : ℕ) → recordOk (emptyQueue queue size 
 unfolding freshOf
 fresh-queue queue size buffer e = rw e
 
-pub kept : (q : RxQueue) → recordOk q ≡ true → Shared (q .shared)
+-- the two parts of the test
+lines : (q : RxQueue) → recordOk q ≡ true → (sharedOk (q .shared) ≡ true) × (bufferOk (q .buffer) ≡ true)
 unfolding recordOk
-kept q e = shared (q .shared) (both (sharedOk (q .shared)) (bufferOk (q .buffer)) e .0)
+lines q e = both (sharedOk (q .shared)) (bufferOk (q .buffer)) e
 
--- the buffer size has its least
-buffer-least : (q : RxQueue) → recordOk q ≡ true → leastBuffer ≤ q .buffer
-unfolding recordOk
-buffer-least q e = steps-is leastBuffer mostBuffer bufferStep (q .buffer) (both (sharedOk (q .shared)) (bufferOk (q .buffer)) e .1) .least
+pub kept : (q : RxQueue) → recordOk q ≡ true → Shared (q .shared)
+kept q e = shared (q .shared) (lines q e .0)
 
 -- the tail value fits its field of 13 bits
 pub tail-value-fits : (q : RxQueue) → tailValueOf q .value < 2 ^ tailBits
 tail-value-fits q = asked-below (recordOk q) _ _ (omega arith) (λ e. tail-fits (q .shared) (kept q e))
 
-pub lent : (q : RxQueue) (ringLength listLength : ℕ) → lentOk q ringLength listLength ≡ true → Lent (q .shared) ringLength listLength
-unfolding lentOk
-lent q ringLength listLength e =
-    let a = both (recordOk q) (eqb ringLength (2 * q .shared .size) && eqb listLength (q .shared .size)) e in
-    let l = both (eqb ringLength (2 * q .shared .size)) (eqb listLength (q .shared .size)) (a .1) in
-    record { is = kept q (a .0); ring-long = eqb-true _ _ (l .0); list-long = eqb-true _ _ (l .1) }
+module _ (q : RxQueue) (ringLength listLength : ℕ) (e : lentOk q ringLength listLength ≡ true) where
+  apart : (recordOk q ≡ true) × (eqb ringLength (2 * q .shared .size) && eqb listLength (q .shared .size) ≡ true)
+  unfolding lentOk
+  apart = both (recordOk q) (eqb ringLength (2 * q .shared .size) && eqb listLength (q .shared .size)) e
 
-pub lent-buffer : (q : RxQueue) (ringLength listLength : ℕ) → lentOk q ringLength listLength ≡ true → leastBuffer ≤ q .buffer
-unfolding lentOk
-lent-buffer q ringLength listLength e = buffer-least q (both (recordOk q) (eqb ringLength (2 * q .shared .size) && eqb listLength (q .shared .size)) e .0)
+  pub lent : Lent (q .shared) ringLength listLength
+  lent =
+      let l = both (eqb ringLength (2 * q .shared .size)) (eqb listLength (q .shared .size)) (apart .1) in
+      record { is = kept q (apart .0); ring-long = eqb-true _ _ (l .0); list-long = eqb-true _ _ (l .1) }
+
+  pub lent-buffer : leastBuffer ≤ q .buffer
+  lent-buffer = steps-is leastBuffer mostBuffer bufferStep (q .buffer) (lines q (apart .0) .1) .least
 
 -- an accepted post was lent what the size asks, and had room
 pub done-lent : (q : RxQueue) (ringLength listLength address : ℕ) → postAnswer q ringLength listLength address ≡ 0 → Lent (q .shared) ringLength listLength

@@ -71,8 +71,8 @@ apart head size k d hk hd ne e = go (decLt k d)
 -- the slot at a distance is that far from head, and the slot at a slot's distance is that slot
 pub distance-slot : (head size k : ℕ) → head < size → k < size → distance head size (slotAt head size k) ≡ k
 distance-slot head size k h l =
-    let e : head + k + (size - head) ≡ k + size = omega arith in
-    mod-add-mod (head + k) size (size - head) ∙ rw e (lap k size l)
+    let e : head + (k + (size - head)) ≡ k + size = omega arith in
+    slot-on head size k (size - head) ∙ rw e (lap k size l)
 
 pub slot-distance : (head size s : ℕ) → head < size → s < size → slotAt head size (distance head size s) ≡ s
 slot-distance head size s h l =

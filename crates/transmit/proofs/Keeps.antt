@@ -1,12 +1,11 @@
 -- What the calls leave: the record given back is accepted again, a refused call changes nothing, and a send leaves every slot but
 -- those that it takes as it was, the device's among them.
 -- Assumes nothing.
-use Prim.Native.Nat.{ℕ, _+_, _%_, _≤_, _<_}
-use mathlib.Core.Path.{_≡_, refl, ap, _∙_}
+use Prim.Native.Nat.{ℕ, _+_, _≤_, _<_}
+use mathlib.Core.Path.{_≡_, refl, _∙_}
 use mathlib.Core.Logic.{_≢_, _⊎_, inl, ⊎-elim}
 use mathlib.Core.Bool.{Bool, true, false, cond}
 use mathlib.Core.List.{List}
-use native.Mathlib.Nat.{mod-add-mod}
 use native.Mathlib.Omega.{arith}
 use borrow.Author.Tests.{eqb-true, ne-eqb}
 use lib.Dec.{eqb}
@@ -16,7 +15,7 @@ use Rattle.ring.specs.declared.Queue.{Queue}
 use Rattle.ring.specs.Slots.{slotAt}
 use Rattle.ring.specs.Queue.{sharedOk, slotOf, tailOf, advanced, grown}
 use Rattle.ring.specs.Memory.{storeRun}
-use Rattle.ring.proofs.Steps.{apart}
+use Rattle.ring.proofs.Steps.{apart, slot-on}
 use Rattle.ring.proofs.Record.{advanced-keeps, grown-keeps}
 use Rattle.ring.proofs.Rows.{row-length, row-other}
 use Rattle.request.specs.declared.Request.{Request}
@@ -117,7 +116,7 @@ module _ (q : TxQueue) (ring tokens counts addresses lengths : List ℕ) (reques
           let s = sendable q (length ring) (length tokens) (length counts) addresses lengths request (eqb-true answer 0 e) in
           let free : (j : ℕ) → j < slotsTaken request lengths → slotOf (q .shared) k ≢ slotAt (tailOf (q .shared)) (q .shared .size) j = λ j h e.
           apart (q .shared .head) (q .shared .size) k (q .shared .posted + j) l (omega (arith, s .room, s .lent-is .is .shared-is)) (λ d. ⊎-elim (λ a. omega arith) (λ a. omega arith) out)
-          (e ∙ mod-add-mod (q .shared .head + q .shared .posted) (q .shared .size) j ∙ ap (λ (m : ℕ). m % q .shared .size) (omega arith)) in
+          (e ∙ slot-on (q .shared .head) (q .shared .size) (q .shared .posted) j) in
           let tail : slotOf (q .shared) k ≢ tailOf (q .shared) = apart (q .shared .head) (q .shared .size) k (q .shared .posted) l (omega (arith, s .lent-is .is .shared-is)) (λ d. ⊎-elim (λ a. omega arith) (λ a. omega (arith, s .own .some, slots-are request (length lengths))) out) in
           record {
             words-same = rw e (row-other 2 (q .shared .size) (descriptor request addresses lengths) ring (tailOf (q .shared)) (two-words request addresses lengths) (slotsTaken request lengths) (slotOf (q .shared) k) free);

@@ -1,11 +1,10 @@
 -- Read-back: in the ring that an accepted send leaves, the slots from the old tail on give back its pieces in order and its offload
 -- request. Its last slot is not marked done, whatever stood there before.
 -- Assumes nothing.
-use Prim.Native.Nat.{ℕ, _+_, _-_, _%_, _^_, _<_}
+use Prim.Native.Nat.{ℕ, _+_, _-_, _^_, _<_}
 use mathlib.Core.Path.{_≡_, refl, sym, ap, ap₂, _∙_}
 use mathlib.Core.Bool.{Bool, true, false, cond}
 use mathlib.Core.List.{List}
-use native.Mathlib.Nat.{add-zero, mod-eq-of-lt}
 use native.Mathlib.Omega.{arith}
 use borrow.Author.Tests.{eq-eqb}
 use lib.Dec.{eqb}
@@ -13,6 +12,7 @@ use lib.ListN.{length, getD}
 use Rattle.ring.specs.Slots.{slotAt}
 use Rattle.ring.specs.Queue.{tailOf}
 use Rattle.ring.specs.Memory.{numbersAt, storeRun}
+use Rattle.ring.proofs.Steps.{slot-here}
 use Rattle.ring.proofs.Rows.{row-reads}
 use Rattle.ring.proofs.Record.{tail-below}
 use Rattle.descriptor.specs.declared.Data.{Data}
@@ -70,7 +70,7 @@ module _ (q : TxQueue) (ring tokens counts addresses lengths : List ℕ) (reques
       ∙ piece-back (q .frame) request (facts .own .sound) (getD lengths i 0) (isLast lengths i) (facts .own .each i l .1)
 
   first-slot : slotAt first (q .shared .size) 0 ≡ first
-  first-slot = ap (λ (k : ℕ). k % q .shared .size) (add-zero first) ∙ mod-eq-of-lt (tail-below (q .shared) (facts .lent-is .is .shared-is))
+  first-slot = slot-here first (q .shared .size) (tail-below (q .shared) (facts .lent-is .is .shared-is))
 
   first-reads : numbersAt 2 after first ≡ descriptor request addresses lengths 0
   first-reads =

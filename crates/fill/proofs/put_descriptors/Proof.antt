@@ -3,7 +3,7 @@
 use mathlib.Core.Path.{_∙_}
 use native.Mathlib.Omega.{arith}
 use lib.ListN.{length}
-use Rattle.fill.proofs.Places.{slots-sum}
+use Rattle.request.proofs.Slots.{slots-are}
 use Rattle.fill.proofs.Pieces.{put-all}
 use Rattle.fill.proofs.put_descriptors.Statement.{statement}
 use Rattle.fill.proofs.put_descriptors.Tie as tie
@@ -11,8 +11,8 @@ use Rattle.fill.proofs.put_descriptors.Tie as tie
 put-context-requires : tie.Need-put-context-requires
 put-context-requires c κs =
     let s = c .before .before .before .before in
-    let sum = slots-sum (s .args .request) (length (s .args .lengths .now)) in
-    (record { head-below = s .pre .start-below; near = omega (arith, sum, s .pre .some, s .pre .fewer); size-high = s .pre .size-high }, s .pre .ring-long)
+    let slots = slots-are (s .args .request) (length (s .args .lengths .now)) in
+    (record { head-below = s .pre .start-below; near = omega (arith, slots, s .pre .some, s .pre .fewer); size-high = s .pre .size-high }, s .pre .ring-long)
 
 put-pieces-requires : tie.Need-put-pieces-requires
 put-pieces-requires c κs =
@@ -24,7 +24,7 @@ put-pieces-requires c κs =
       start-below = put .ensures .behind .below;
       paired = s .pre .paired;
       some = s .pre .some;
-      fewer = omega (arith, slots-sum (s .args .request) (length (s .args .lengths .now)), s .pre .fewer);
+      fewer = omega (arith, slots-are (s .args .request) (length (s .args .lengths .now)), s .pre .fewer);
       short = s .pre .short;
     }
 
