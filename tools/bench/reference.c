@@ -29,7 +29,7 @@ static inline bool address_wrong(uint64_t address, uint64_t length)
 
 /* ---- receiving */
 
-enum { PACKET_SLOTS = 5, BUFFER_LEAST = 1024, BUFFER_MOST = 16256, BUFFER_STEP = 128 };
+enum { PACKET_SLOTS = 5, BUFFER_LEAST = 1024, BUFFER_MOST = 16256, BUFFER_STEP = 128, BURST_PACKETS = 32, BURST_NUMBERS = 3 * BURST_PACKETS };
 enum family { FAMILY_UNKNOWN, FAMILY_MAC, FAMILY_ARP, FAMILY_IPV4, FAMILY_IPV6 };
 
 struct rx_queue {
@@ -63,6 +63,12 @@ struct rx_taken {
     uint8_t answer;
     struct rx_queue queue;
     struct packet packet;
+};
+
+struct rx_burst {
+    uint8_t answer;
+    struct rx_queue queue;
+    size_t packets, examined;
 };
 
 static inline bool rx_record_ok(struct rx_queue q)
@@ -174,6 +180,54 @@ static struct rx_taken rx_take(struct rx_queue q, const uint64_t *ring, size_t r
             at = 0;
     }
     return rx_refused(q, 4);
+}
+
+/* the list is lent as to a take, and only its length is looked at */
+static struct rx_burst rx_burst(struct rx_queue q, const uint64_t *ring, size_t ring_length, const uint64_t *list, size_t list_length, uint64_t *restrict out, size_t out_length, size_t limit)
+{
+    (void)list;
+    struct rx_burst b = { .answer = 0, .queue = q };
+    if (!rx_lent_ok(q, ring_length, list_length) || out_length != BURST_NUMBERS) {
+        b.answer = 1;
+        return b;
+    }
+    if (limit == 0 || limit > BURST_PACKETS) {
+        b.answer = 10;
+        return b;
+    }
+    while (b.packets < limit) {
+        size_t at = b.queue.head, total = 0, k = 0;
+        bool last;
+        do {
+            if (k == b.queue.posted) {
+                b.answer = 4;
+                return b;
+            }
+            uint64_t word1 = ring[2 * at + 1];
+            size_t length = FIELD(word1, 38, 14);
+            last = word1 & 2;
+            b.examined++;
+            if (!(word1 & 1)) {
+                b.answer = 4;
+                return b;
+            }
+            if (length > q.buffer || (length == 0 && (!last || k == 0)) || (!last && k == PACKET_SLOTS - 1)) {
+                b.answer = 5;
+                return b;
+            }
+            total += length;
+            k++;
+            if (++at == q.size)
+                at = 0;
+        } while (!last);
+        out[3 * b.packets] = b.queue.head;
+        out[3 * b.packets + 1] = k;
+        out[3 * b.packets + 2] = total;
+        b.queue.head = at;
+        b.queue.posted -= k;
+        b.packets++;
+    }
+    return b;
 }
 
 /* ---- sending */
@@ -539,6 +593,53 @@ static uint64_t rx_rounds(uint64_t *restrict ring, size_t ring_length, uint64_t 
     return rx_end(run, ring, ring_length);
 }
 
+/* ---- rounds of polling */
+
+/* a ring that is full of packets of one slot */
+static void fill_ring(uint64_t *ring, size_t ring_length, size_t size)
+{
+    for (size_t at = 0; at < size; at++)
+        device_writes(ring, ring_length, at, (uint64_t)at << 32 | 0x123, last_word(at));
+}
+
+/* so many packets wait from head on, the first of them just written */
+static inline struct rx_queue with_packets(struct rx_queue q, size_t packets, uint64_t *ring, size_t ring_length, uint64_t i)
+{
+    device_writes(ring, ring_length, q.head, i << 32 | 0x123, last_word(i));
+    q.posted = packets;
+    return q;
+}
+
+static uint64_t burst_rounds(uint64_t *restrict ring, size_t ring_length, const uint64_t *restrict list, size_t list_length, size_t packets, bool idle, uint64_t rounds)
+{
+    uint64_t out[BURST_NUMBERS] = { 0 };
+    struct rx_run run = rx_start(list_length);
+    fill_ring(ring, ring_length, list_length);
+    for (uint64_t i = 0; i < rounds; i++) {
+        struct rx_queue q = with_packets(run.queue, packets, ring, ring_length, i);
+        struct rx_burst b = idle ? (struct rx_burst){ 0, q, packets, packets } : rx_burst(q, ring, ring_length, list, list_length, out, BURST_NUMBERS, packets);
+        run.queue = b.queue;
+        run.sum = mix_list(mix(mix(mix(run.sum, b.answer), b.packets), b.examined), out, BURST_NUMBERS);
+    }
+    return rx_end(run, ring, ring_length);
+}
+
+static uint64_t take_rounds(uint64_t *restrict ring, size_t ring_length, const uint64_t *restrict list, size_t list_length, size_t packets, bool idle, uint64_t rounds)
+{
+    struct rx_run run = rx_start(list_length);
+    fill_ring(ring, ring_length, list_length);
+    struct rx_taken seen = rx_take(with_packets(run.queue, 1, ring, ring_length, rounds), ring, ring_length, list, list_length);
+    for (uint64_t i = 0; i < rounds; i++) {
+        run.queue = with_packets(run.queue, packets, ring, ring_length, i);
+        for (size_t k = 0; k < packets; k++) {
+            struct rx_taken taken = idle ? seen : rx_take(run.queue, ring, ring_length, list, list_length);
+            run.queue = taken.queue;
+            run.sum = mix_taken(run.sum, &taken);
+        }
+    }
+    return rx_end(run, ring, ring_length);
+}
+
 /* ---- rounds of sending */
 
 enum { FRAME = 1518, PLAIN_PIECE = 100, HEADER_PIECE = 54 };
@@ -639,6 +740,15 @@ static uint64_t received(const uint64_t *values)
     return rx_rounds(ring, 2 * size, list, size, values[4], values[1] == 1, values[2]);
 }
 
+static uint64_t polled(const uint64_t *values)
+{
+    uint64_t ring[2 * MOST_SLOTS] = { 0 }, list[MOST_SLOTS] = { 0 };
+    size_t size = within(values[3], MOST_SLOTS), packets = within(values[4], MOST_SLOTS);
+    if (values[0] == 4)
+        return burst_rounds(ring, 2 * size, list, size, packets, values[1] == 1, values[2]);
+    return take_rounds(ring, 2 * size, list, size, packets, values[1] == 1, values[2]);
+}
+
 static uint64_t sent(const uint64_t *values)
 {
     uint64_t ring[2 * MOST_SLOTS] = { 0 }, tokens[MOST_SLOTS] = { 0 }, addresses[MOST_PIECES] = { 0 }, lengths[MOST_PIECES] = { 0 };
@@ -655,6 +765,9 @@ static uint64_t answer(const uint64_t *values)
         return received(values);
     case 2:
         return sent(values);
+    case 4:
+    case 5:
+        return polled(values);
     default:
         return int_rounds(values[1] == 1, values[2]);
     }
@@ -666,6 +779,7 @@ static void print_sizes(void)
     SIZE("the receive record", struct rx_queue);
     SIZE("Fresh and Posted (receive)", struct rx_answer);
     SIZE("Taken", struct rx_taken);
+    SIZE("Burst", struct rx_burst);
     SIZE("the transmit record", struct tx_queue);
     SIZE("Fresh (transmit)", struct tx_answer);
     SIZE("Sent", struct tx_sent);
