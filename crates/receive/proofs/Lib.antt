@@ -3,4 +3,5 @@ pub mod Outcomes
 pub mod Keeps
 pub mod Posts
 pub mod Takes
+pub mod Bursts
 pub mod Causes

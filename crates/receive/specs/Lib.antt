@@ -2,4 +2,5 @@ pub mod Queue
 pub mod Post
 pub mod Take
 pub mod Packets
+pub mod Burst
 pub mod Steps

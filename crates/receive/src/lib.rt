@@ -1,8 +1,9 @@
-// The receive queue of the driver core: fresh queues and the tail (queue), post, take.
+// The receive queue of the driver core: fresh queues and the tail (queue), post, take, and burst, many packets in one poll (poll).
 use ring::Queue;
 use scan::PACKET_SLOTS;
 use writeback::WriteBack;
 
+mod poll;
 mod post;
 mod queue;
 mod take;
@@ -36,4 +37,12 @@ pub struct Taken {
     pub answer: u8,
     pub queue: RxQueue,
     pub packet: Packet,
+}
+
+// What many takes come to: the number that stopped them, the record carried on, the packets taken and the slots examined.
+pub struct Burst {
+    pub answer: u8,
+    pub queue: RxQueue,
+    pub packets: usize,
+    pub examined: usize,
 }

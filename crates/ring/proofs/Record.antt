@@ -19,6 +19,17 @@ use Rattle.ring.proofs.Steps.{slot-below, distance-slot, slot-distance}
 
 -- ---- what the test says, and what keeps it
 
+-- moving on by any count keeps the lines
+pub moved-on : {q : Queue} → Shared q → (n : ℕ) → Shared (advanced q n)
+moved-on {q} s n =
+    record {
+      queue-high = s .queue-high;
+      size-low = s .size-low;
+      size-high = s .size-high;
+      head-below = slot-below (q .head) (q .size) n (omega (arith, s .size-low));
+      posted-below = omega (arith, s .posted-below);
+    }
+
 module _ (q : Queue) (ok : sharedOk q ≡ true) where
   numbers-ok : queueOk (q .queue) (q .size) ≡ true
   numbers-ok = both (queueOk (q .queue) (q .size)) (placeOk (q .size) (q .head) (q .posted)) ok .0
@@ -41,7 +52,7 @@ module _ (q : Queue) (ok : sharedOk q ≡ true) where
   moved head posted h p = rw (numbers-ok, lt-ltb head (q .size) h, lt-ltb posted (q .size) p)
 
   pub advanced-keeps : (n : ℕ) → sharedOk (advanced q n) ≡ true
-  advanced-keeps n = let s = shared in moved (slotOf q n) (q .posted - n) (slot-below (q .head) (q .size) n (omega arith)) (omega arith)
+  advanced-keeps n = let s = moved-on shared n in moved (slotOf q n) (q .posted - n) (s .head-below) (s .posted-below)
 
   pub grown-keeps : (n : ℕ) → q .posted + n < q .size → sharedOk (grown q n) ≡ true
   grown-keeps n r = moved (q .head) (q .posted + n) (shared .head-below) r

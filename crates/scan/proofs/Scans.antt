@@ -6,6 +6,7 @@ use mathlib.Core.Logic.{_⊎_, inl, inr}
 use mathlib.Core.Bool.{Bool, true, false, not, cond}
 use mathlib.Core.List.{List, [], _∷_, _++_, map}
 use native.Mathlib.Omega.{arith}
+use borrow.Author.Tests.{not-true}
 use lib.ListN.{length, getD, take, length-map, List·getD-eq-default}
 use Rattle.rules.specs.Rules.{answerOf}
 use Rattle.rules.proofs.Tests.{both}
@@ -15,7 +16,7 @@ use Rattle.ring.specs.Queue.{slotOf}
 use Rattle.ring.proofs.Runs.{length-run, getD-run, run-take}
 use Rattle.places.specs.Words.{dd, eop}
 use Rattle.scan.specs.Slots.{Slot, slotIn, postedSlots}
-use Rattle.scan.specs.Scan.{packetSlots, lengthOk, endOk, allowed, writable, Complete, ends, goes, Look, refuse, whole, andThen, scan, slotChecks}
+use Rattle.scan.specs.Scan.{packetSlots, lengthOk, endOk, allowed, writable, Complete, ends, goes, goesOn, examined, Look, refuse, whole, andThen, scan, slotChecks}
 use Rattle.scan.specs.Told.{padded}
 use Rattle.scan.proofs.Packets.{padded-at, map-at}
 use Rattle.scan.proofs.Walk.{allowed-last, allowed-on, not-fifth}
@@ -96,6 +97,48 @@ refused-with buffer k (s ∷ rest) n h =
     go true true true true f h r = let z : _≡_ {A = ℕ} 0 1 = cc in absurd (omega arith)
     go true true true false (refuse m) h r = let e : m ≡ n = cc in rw (← e) (r m refl)
     go true true true false (whole p) h r = let z : _≡_ {A = ℕ} 0 1 = cc in absurd (omega arith)
+
+-- ---- the slots that a scan examines
+
+-- it goes on only behind a slot that is not the fifth
+goes-within : (buffer k : ℕ) (s : Slot) → goesOn buffer k (s .words) ≡ true → suc k < packetSlots
+unfolding goesOn
+goes-within buffer k s g =
+    let b = both (writable buffer k (s .words)) (not (eop (s .words))) g in
+    not-fifth buffer k s (parts buffer k s (b .0) .1) (not-true _ (b .1))
+
+module _ (buffer : ℕ) where
+  -- none past the posted
+  pub reads-posted : (k : ℕ) (slots : List Slot) → examined buffer k slots ≤ length slots
+  unfolding examined
+  reads-posted k [] = omega arith
+  reads-posted k (s ∷ rest) = go (goesOn buffer k (s .words)) (reads-posted (suc k) rest)
+    where
+      go : (b : Bool) → examined buffer (suc k) rest ≤ length rest → suc (cond b (examined buffer (suc k) rest) 0) ≤ suc (length rest)
+      go true r = omega arith
+      go false r = omega arith
+
+  -- at most five
+  pub reads-few : (k : ℕ) (slots : List Slot) → k < packetSlots → k + examined buffer k slots ≤ packetSlots
+  unfolding examined
+  reads-few k [] h = omega arith
+  reads-few k (s ∷ rest) h = go (goesOn buffer k (s .words)) refl (λ l. reads-few (suc k) rest l)
+    where
+      go : (b : Bool) → goesOn buffer k (s .words) ≡ b → (suc k < packetSlots → suc k + examined buffer (suc k) rest ≤ packetSlots)
+          → k + suc (cond b (examined buffer (suc k) rest) 0) ≤ packetSlots
+      go true e r = omega (arith, r (goes-within buffer k s e))
+      go false e r = omega arith
+
+  -- of a whole packet its slots
+  reads-packet : (k : ℕ) (p rest : List Slot) → Complete buffer k p → examined buffer k (p ++ rest) ≡ length p
+  unfolding examined goesOn
+  reads-packet k (s ∷ []) rest (ends w e) = rw (w, e)
+  reads-packet k (s ∷ p) rest (goes w e c) = rw (w, e) (ap suc (reads-packet (suc k) p rest c))
+
+  pub reads-whole : (k : ℕ) (slots p : List Slot) → scan buffer k slots ≡ whole p → examined buffer k slots ≡ length p
+  reads-whole k slots p h =
+      let b = seen-is buffer k slots p h in
+      ap (examined buffer k) (b .are) ∙ reads-packet k p (b .rest) (b .complete)
 
 -- the number of what a scan sees
 abbrev pub numberOf : Look → ℕ

@@ -4,7 +4,7 @@ use Prim.Native.Nat.{ℕ, suc, _+_, _-_, _*_, _/_, _^_, _≤_, _<_}
 use mathlib.Core.Path.{_≡_, refl, sym, ap, _∙_}
 use mathlib.Core.Bool.{Bool, true, false, not, _&&_, _||_, cond}
 use mathlib.Core.List.{List, [], _∷_, _++_, map}
-use native.Mathlib.Nat.{add-zero, sub-zero, add-suc, mod-lt}
+use native.Mathlib.Nat.{zero-add, add-zero, sub-zero, add-suc, mod-lt}
 use native.Mathlib.Numerals.{add-one}
 use native.Mathlib.Omega.{arith}
 use borrow.Author.Tests.{ltb-true}
@@ -18,7 +18,7 @@ use Rattle.ring.proofs.Runs.{length-run, run-snoc}
 use Rattle.places.specs.Places.{lengthPlace}
 use Rattle.places.specs.Words.{Words, dd, eop, lengthOf}
 use Rattle.scan.specs.Slots.{Slot, slotIn, postedSlots}
-use Rattle.scan.specs.Scan.{packetSlots, lengthOk, endOk, allowed, Look, refuse, whole, andThen, scan}
+use Rattle.scan.specs.Scan.{packetSlots, lengthOk, endOk, allowed, goesOn, examined, writable, Look, refuse, whole, andThen, scan}
 use Rattle.scan.specs.Told.{sum, padded, addressesOf, lengthsOf, seenOf, seenBy}
 use Rattle.scan.proofs.Packets.{padded-more, sum-more, map-more, last-more, after, after-more, after-refuse, after-whole}
 
@@ -76,39 +76,46 @@ module _ (q : Queue) (buffer : ℕ) (ring list : List ℕ) where
   abbrev pub scanned : Look
   scanned = scan buffer 0 (postedSlots q ring list)
 
-  -- k slots of the packet are seen, none of which is its last: the places and the total are theirs
-  pub record Walked (addresses lengths : List ℕ) (total k : ℕ) : Type 0 where
+  abbrev pub slotsRead : ℕ
+  slotsRead = examined buffer 0 (postedSlots q ring list)
+
+  -- k slots of the packet are seen, none of which is its last, and the total is theirs
+  pub record Walked (total k : ℕ) : Type 0 where
     pub few : k < packetSlots
     pub within : k ≤ q .posted
     pub so-far : scanned ≡ after (seen q ring list k) (scan buffer k (rest q ring list k))
-    pub addresses-are : addresses ≡ padded (addressesOf (seen q ring list k))
-    pub lengths-are : lengths ≡ padded (lengthsOf (seen q ring list k))
+    pub read : slotsRead ≡ k + examined buffer k (rest q ring list k)
     pub total-is : total ≡ sum (lengthsOf (seen q ring list k))
     pub total-small : total ≤ 16383 * k
 
-  pub first : Walked (padded []) (padded []) 0 0
+  -- and the places have what is told of each
+  pub record Placed (addresses lengths : List ℕ) (k : ℕ) : Type 0 where
+    pub addresses-are : addresses ≡ padded (addressesOf (seen q ring list k))
+    pub lengths-are : lengths ≡ padded (lengthsOf (seen q ring list k))
+
+  pub first : Walked 0 0
   unfolding run postedSlots after sum
-  first =
-      record {
-        few = omega arith;
-        within = omega arith;
-        so-far = rw (add-zero, sub-zero);
-        addresses-are = refl;
-        lengths-are = refl;
-        total-is = refl;
-        total-small = omega arith;
-      }
+  first = record { few = omega arith; within = omega arith; so-far = rw (add-zero, sub-zero); read = rw (add-zero, sub-zero, zero-add); total-is = refl; total-small = omega arith }
+
+  pub none-placed : Placed (padded []) (padded []) 0
+  unfolding run
+  none-placed = record { addresses-are = refl; lengths-are = refl }
 
 -- the two rules of a slot look at its word 1 alone
 word1-only : (buffer k : ℕ) (x : Words) → allowed buffer k (record { word0 = 0; word1 = x .word1 }) ≡ allowed buffer k x
 unfolding lengthOk endOk
 word1-only buffer k x = refl
 
-module _ (q : Queue) (buffer : ℕ) (ring list addresses lengths : List ℕ) (total k : ℕ) (w : Walked q buffer ring list addresses lengths total k) where
+module _ (q : Queue) (buffer : ℕ) (ring list : List ℕ) (total k : ℕ) (w : Walked q buffer ring list total k) where
   -- past the posted ones
-  pub at-end : q .posted ≤ k → scanned q buffer ring list ≡ refuse 4
-  unfolding scan
-  at-end h = w .so-far ∙ rw (rest-none q ring list k h) (after-refuse _ _)
+  module _ (h : q .posted ≤ k) where
+    pub at-end : scanned q buffer ring list ≡ refuse 4
+    unfolding scan
+    at-end = w .so-far ∙ rw (rest-none q ring list k h) (after-refuse _ _)
+
+    pub read-at-end : slotsRead q buffer ring list ≡ k
+    unfolding examined
+    read-at-end = w .read ∙ rw (rest-none q ring list k h, add-zero)
 
   -- the slot at distance k, which the code reads at its number
   module _ (h : k < q .posted) (at : ℕ) (is : at ≡ slotOf q k) where
@@ -124,18 +131,33 @@ module _ (q : Queue) (buffer : ℕ) (ring list addresses lengths : List ℕ) (to
     allow : {b : Bool} → ok ≡ b → allowed buffer k (here .words) ≡ b
     allow e = sym (word1-only buffer k (here .words)) ∙ e
 
+    rest-here : rest q ring list k ≡ here ∷ rest q ring list (suc k)
+    rest-here = rest-more q ring list k h ∙ ap (λ (j : ℕ). slotIn ring list j ∷ rest q ring list (suc k)) (sym is)
+
     from-here : (l : Look) → scan buffer k (here ∷ rest q ring list (suc k)) ≡ l → scanned q buffer ring list ≡ after (seen q ring list k) l
-    from-here l e =
-        w .so-far
-        ∙ rw (rest-more q ring list k h)
-        (ap (λ (j : ℕ). after (seen q ring list k) (scan buffer k (slotIn ring list j ∷ rest q ring list (suc k)))) (sym is)
-        ∙ ap (after (seen q ring list k)) e)
+    from-here l e = w .so-far ∙ rw rest-here (ap (after (seen q ring list k)) e)
+
+    -- the scan reads this slot, and goes on behind it or not
+    reads : (b : Bool) → goesOn buffer k (here .words) ≡ b → slotsRead q buffer ring list ≡ k + suc (cond b (examined buffer (suc k) (rest q ring list (suc k))) 0)
+    unfolding examined
+    reads b g = w .read ∙ rw (rest-here, g)
+
+    read-here : goesOn buffer k (here .words) ≡ false → slotsRead q buffer ring list ≡ k + 1
+    read-here g = reads false g
 
     pub at-clear : dd (here .words) ≡ false → scanned q buffer ring list ≡ refuse 4
     at-clear d = from-here _ (not-done _ _ here _ d) ∙ after-refuse _ _
 
+    pub read-at-clear : dd (here .words) ≡ false → slotsRead q buffer ring list ≡ k + 1
+    unfolding goesOn writable
+    read-at-clear d = read-here (rw d)
+
     pub at-wrong : dd (here .words) ≡ true → ok ≡ false → scanned q buffer ring list ≡ refuse 5
     at-wrong d a = from-here _ (not-allowed _ _ here _ d (allow a)) ∙ after-refuse _ _
+
+    pub read-at-wrong : dd (here .words) ≡ true → ok ≡ false → slotsRead q buffer ring list ≡ k + 1
+    unfolding goesOn writable
+    read-at-wrong d a = read-here (rw (d, allow a))
 
     more : seen q ring list (k + 1) ≡ seen q ring list k ++ here ∷ []
     more =
@@ -143,54 +165,58 @@ module _ (q : Queue) (buffer : ℕ) (ring list addresses lengths : List ℕ) (to
         (run-snoc (slotIn ring list) (q .size) (q .head) k
         ∙ ap (λ (j : ℕ). seen q ring list k ++ slotIn ring list j ∷ []) (sym is))
 
-    long : length (seen q ring list k) ≡ k
-    long = length-run (slotIn ring list) (q .size) (q .head) k
-
-    -- what is told of a slot, put at its place
-    places-more : (f : Slot → ℕ) (ns : List ℕ) → ns ≡ padded (map f (seen q ring list k)) → set ns k (f here) ≡ padded (map f (seen q ring list (k + 1)))
-    places-more f ns e =
-        let n : length (map f (seen q ring list k)) ≡ k = length-map (seen q ring list k) f ∙ long in
-        rw (e, more, map-more)
-        (ap (λ (i : ℕ). set (padded (map f (seen q ring list k))) i (f here)) (sym n)
-        ∙ padded-more (map f (seen q ring list k)) (f here) (rw n (w .few)))
-
-    addresses-more : set addresses k (here .address) ≡ padded (addressesOf (seen q ring list (k + 1)))
-    addresses-more = places-more (λ (s : Slot). s .address) addresses (w .addresses-are)
-
-    lengths-more : set lengths k size ≡ padded (lengthsOf (seen q ring list (k + 1)))
-    lengths-more = places-more (λ (s : Slot). lengthOf (s .words)) lengths (w .lengths-are)
-
-    total-more : total + size ≡ sum (lengthsOf (seen q ring list (k + 1)))
+    pub total-more : total + size ≡ sum (lengthsOf (seen q ring list (k + 1)))
     total-more = rw (w .total-is, more, map-more) (sym (sum-more _ _))
 
     -- the packet goes on
-    pub next : dd (here .words) ≡ true → ok ≡ true → eop (here .words) ≡ false
-        → Walked q buffer ring list (set addresses k (here .address)) (set lengths k size) (total + size) (k + 1)
+    pub next : dd (here .words) ≡ true → ok ≡ true → eop (here .words) ≡ false → Walked q buffer ring list (total + size) (k + 1)
+    unfolding goesOn writable
     next d a e =
         record {
           few = omega (arith, not-fifth buffer k here (allow a) e);
           within = omega arith;
           so-far = from-here _ (allowed-on _ _ here _ d (allow a) e) ∙ rw (more, add-one k) (sym (after-more _ _ _));
-          addresses-are = addresses-more;
-          lengths-are = lengths-more;
+          read = reads true (rw (d, allow a, e)) ∙ rw (add-one k) (omega arith);
           total-is = total-more;
           total-small = omega (arith, w .total-small, mod-lt (here .words .word1 / 2 ^ lengthPlace 0 .at) {m = 2 ^ lengthPlace 0 .width} (omega arith));
         }
 
     -- the packet is complete
-    pub complete : dd (here .words) ≡ true → ok ≡ true → eop (here .words) ≡ true
-        → seenBy (scanned q buffer ring list) q
-        ≡ record {
-          answer = 0;
-          queue = advanced q (k + 1);
-          count = k + 1;
-          total = total + size;
-          addresses = set addresses k (here .address);
-          lengths = set lengths k size;
-          word0 = here .words .word0;
-          word1 = here .words .word1;
-        }
-    unfolding seenBy seenOf
-    complete d a e =
-        rw (from-here _ (allowed-last _ _ here _ d (allow a) e) ∙ after-whole _ _ ∙ ap whole (sym more))
-        (rw (addresses-more, lengths-more, total-more, length-run) (rw (more, last-more)))
+    module _ (d : dd (here .words) ≡ true) (a : ok ≡ true) (e : eop (here .words) ≡ true) where
+      pub complete : scanned q buffer ring list ≡ whole (seen q ring list (k + 1))
+      complete = from-here _ (allowed-last _ _ here _ d (allow a) e) ∙ after-whole _ _ ∙ ap whole (sym more)
+
+      pub read-complete : slotsRead q buffer ring list ≡ k + 1
+      unfolding goesOn writable
+      read-complete = read-here (rw (d, allow a, e))
+
+    -- what is told of a slot, put at its place
+    module _ (addresses lengths : List ℕ) (p : Placed q buffer ring list addresses lengths k) where
+      places-more : (f : Slot → ℕ) (ns : List ℕ) → ns ≡ padded (map f (seen q ring list k)) → set ns k (f here) ≡ padded (map f (seen q ring list (k + 1)))
+      places-more f ns e =
+          let n : length (map f (seen q ring list k)) ≡ k = length-map (seen q ring list k) f ∙ length-run (slotIn ring list) (q .size) (q .head) k in
+          rw (e, more, map-more)
+          (ap (λ (i : ℕ). set (padded (map f (seen q ring list k))) i (f here)) (sym n)
+          ∙ padded-more (map f (seen q ring list k)) (f here) (rw n (w .few)))
+
+      pub next-placed : Placed q buffer ring list (set addresses k (here .address)) (set lengths k size) (k + 1)
+      next-placed =
+          record {
+            addresses-are = places-more (λ (s : Slot). s .address) addresses (p .addresses-are);
+            lengths-are = places-more (λ (s : Slot). lengthOf (s .words)) lengths (p .lengths-are);
+          }
+
+      pub told : dd (here .words) ≡ true → ok ≡ true → eop (here .words) ≡ true
+          → seenBy (scanned q buffer ring list) q
+          ≡ record {
+            answer = 0;
+            queue = advanced q (k + 1);
+            count = k + 1;
+            total = total + size;
+            addresses = set addresses k (here .address);
+            lengths = set lengths k size;
+            word0 = here .words .word0;
+            word1 = here .words .word1;
+          }
+      unfolding seenBy seenOf
+      told d a e = rw (complete d a e) (rw (next-placed .addresses-are, next-placed .lengths-are, total-more, length-run) (rw (more, last-more)))

@@ -57,6 +57,15 @@ scan buffer k (s ∷ rest) =
     (cond (eop (s .words)) (whole (s ∷ []))
     (andThen s (scan buffer (suc k) rest)))))
 
+-- a slot that a scan goes on behind: one that the device may write at its place, and not the last of its packet
+unfoldable pub goesOn : ℕ → ℕ → Words → Bool
+goesOn buffer k x = writable buffer k x && not (eop x)
+
+-- how many slots a scan examines, those whose word 1 it reads: up to and including the one that completes or refuses, and none past the posted
+unfoldable pub examined : ℕ → ℕ → List Slot → ℕ
+examined buffer k [] = 0
+examined buffer k (s ∷ rest) = suc (cond (goesOn buffer k (s .words)) (examined buffer (suc k) rest) 0)
+
 -- the same as checks in their order, for the exact cause of each number: at each slot DD clear 4, a length that the rules forbid 5,
 -- a fifth slot without EOP 5, EOP done; past the posted ones 4
 unfoldable pub slotChecks : ℕ → ℕ → List Slot → List Check

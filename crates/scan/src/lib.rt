@@ -26,7 +26,7 @@ pub struct Seen {
 }
 
 // What the device's rules allow in a slot with k slots of its packet before it.
-fn slot_ok(buffer: usize, k: usize, word1: u64) -> bool
+pub fn slot_ok(buffer: usize, k: usize, word1: u64) -> bool
     requires { ⌜ k < mostSize ⌝ }
     ensures { λ r. ⌜ r ≡ allowed buffer k (record { word0 = 0; word1 = word1 }) ⌝ }
 {

@@ -6,19 +6,19 @@ use Prim.Native.Nat.{_-_}
 use native.Mathlib.Omega.{arith}
 use borrow.Author.Needs.{needs}
 use Rattle.scan.specs.Told.{padded}
-use Rattle.scan.proofs.Walk.{Walked, first, at-end, at-clear, at-wrong, next, complete}
+use Rattle.scan.proofs.Walk.{Walked, Placed, first, none-placed, at-end, at-clear, at-wrong, next, next-placed, told}
 use Rattle.scan.proofs.posted.Statement.{statement}
 use Rattle.scan.proofs.posted.Tie as tie
 
 abbrev Inv-loop : tie.InvT-loop
-Inv-loop queue buffer ring list size head posted addresses₀ lengths₀ total₀ k₀ addresses lengths total k = Walked queue buffer ring list addresses lengths total k
+Inv-loop queue buffer ring list size head posted addresses₀ lengths₀ total₀ k₀ addresses lengths total k = Walked queue buffer ring list total k × Placed queue buffer ring list addresses lengths k
 
 abbrev μ-loop : tie.MeasureT-loop
 μ-loop queue buffer ring list size head posted addresses₀ lengths₀ total₀ k₀ addresses lengths total k = queue .posted - k
 
 loop-holds : tie.Need-loop-holds Inv-loop μ-loop
 unfolding padded
-loop-holds c = first _ _ _ _
+loop-holds c = (first _ _ _ _, none-placed _ _ _ _)
 
 slot-requires : tie.Need-slot-requires Inv-loop μ-loop
 slot-requires c κs = search needs
@@ -44,7 +44,7 @@ refused-requires c κs = search needs
 returns : tie.Need-returns Inv-loop μ-loop
 returns c =
     let d = sym (c .before .before .dd .ensures) ∙ not-true _ (c .before .if1 .taken) in
-    rw (at-clear _ _ _ _ _ _ _ _ (c .before .before .before .before .before .before .loop .inv) (omega arith) _ (c .before .before .before .before .slot .ensures .is) d) (c .refused .ensures)
+    rw (at-clear _ _ _ _ _ _ (c .before .before .before .before .before .before .loop .inv .0) (omega arith) _ (c .before .before .before .before .slot .ensures .is) d) (c .refused .ensures)
 
 slot-ok-requires : tie.Need-slot-ok-requires Inv-loop μ-loop
 slot-ok-requires c κs = search needs
@@ -94,8 +94,9 @@ returns-2 c =
     let d = sym (p .before .dd .ensures) ∙ not-false _ (p .if1 .left) in
     let a = sym (c .before .before .before .before .before .before .before .slot-ok .ensures) ∙ c .before .before .before .before .before .before .if2 .taken in
     let e = sym (c .before .before .before .eop .ensures) ∙ c .before .before .if3 .taken in
+    let inv = p .before .before .before .before .before .loop .inv in
     rw (c .before .advanced .ensures, c .before .before .before .before .before .length .ensures)
-    (sym (complete _ _ _ _ _ _ _ _ (p .before .before .before .before .before .loop .inv) (omega arith) _ (p .before .before .before .slot .ensures .is) d a e))
+    (sym (told _ _ _ _ _ _ (inv .0) (omega arith) _ (p .before .before .before .slot .ensures .is) _ _ (inv .1) d a e))
 
 loop-less : tie.Need-loop-less Inv-loop μ-loop
 loop-less c = search needs
@@ -106,7 +107,9 @@ loop-again c =
     let d = sym (p .before .dd .ensures) ∙ not-false _ (p .if1 .left) in
     let a = sym (c .before .before .before .before .before .slot-ok .ensures) ∙ c .before .before .before .before .if2 .taken in
     let e = sym (c .before .eop .ensures) ∙ c .if3 .left in
-    rw (c .before .before .before .length .ensures) (next _ _ _ _ _ _ _ _ (p .before .before .before .before .before .loop .inv) (omega arith) _ (p .before .before .before .slot .ensures .is) d a e)
+    let inv = p .before .before .before .before .before .loop .inv in
+    let at = p .before .before .before .slot .ensures .is in
+    rw (c .before .before .before .length .ensures) (next _ _ _ _ _ _ (inv .0) (omega arith) _ at d a e, next-placed _ _ _ _ _ _ (inv .0) (omega arith) _ at _ _ (inv .1))
 
 refused-requires-2 : tie.Need-refused-requires-2 Inv-loop μ-loop
 refused-requires-2 c κs = search needs
@@ -116,13 +119,13 @@ returns-3 c =
     let p = c .before .before .before in
     let d = sym (p .before .dd .ensures) ∙ not-false _ (p .if1 .left) in
     let a = sym (c .before .before .slot-ok .ensures) ∙ c .before .if2 .left in
-    rw (at-wrong _ _ _ _ _ _ _ _ (p .before .before .before .before .before .loop .inv) (omega arith) _ (p .before .before .before .slot .ensures .is) d a) (c .refused2 .ensures)
+    rw (at-wrong _ _ _ _ _ _ (p .before .before .before .before .before .loop .inv .0) (omega arith) _ (p .before .before .before .slot .ensures .is) d a) (c .refused2 .ensures)
 
 refused-requires-3 : tie.Need-refused-requires-3 Inv-loop μ-loop
 refused-requires-3 c κs = search needs
 
 returns-4 : tie.Need-returns-4 Inv-loop μ-loop
-returns-4 c = rw (at-end _ _ _ _ _ _ _ _ (c .before .before .loop .inv) (omega arith)) (c .refused3 .ensures)
+returns-4 c = rw (at-end _ _ _ _ _ _ (c .before .before .loop .inv .0) (omega arith)) (c .refused3 .ensures)
 
 pub posted-spec : {M : Type 1} → statement M
 posted-spec =
