@@ -8,6 +8,7 @@ mod bench;
 mod burst;
 mod burst_aims;
 mod burst_cover;
+mod burst_selftest;
 mod compare;
 mod cover;
 mod fixed;
