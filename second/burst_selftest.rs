@@ -105,7 +105,7 @@ fn five_slots(checks: &mut Checks) {
     checks.equal("fifth, not posted", on_sevens(nine, &ring, 32, 96).0, Ok((1, 9, 5, 4, 4)));
 }
 
-/// The slots that a take reads, seen from outside: a clear word 1 makes it answer 4 at that slot and
+/// The slots that a take reads, seen from outside: a clear word 1 makes it answer 4 at that slot,
 /// DD alone makes it answer 5, so the two differ exactly where it gets as far as that slot.
 fn read_by_take(record: Record, ring: &[u64], list: &[u64]) -> u64 {
     let with = |slot: usize, word1: u64| {
@@ -169,7 +169,8 @@ fn lines(checks: &mut Checks) {
     );
     // the sum is of all 128 numbers: rotl(1, 7 x 127) is 2^57
     equal("out 0 1\nout 127 3\nburst 1 0", "burst 1 0 0 0 0 144115188075855875\n");
-    // slot 0 alone, 64 bytes: 0, 1 and 64 are written, and rotl(1, 7 x 126) is 2^50, rotl(64, 7 x 125) is 2^49
+    // slot 0 alone, 64 bytes: 0, 1 and 64 are written, and in the sum rotl(1, 7 x 126) is 2^50,
+    // rotl(64, 7 x 125) is 2^49
     let packet = "rxset 0 32 0 1 2048 64 32\nrxpoke 1 17592186044419\nburst 1 96\nburst 1 96";
     equal(packet, "burst 0 1 0 1 1 1688849860263936\nburst 4 1 0 0 0 1688849860263936\n");
 }
