@@ -18,7 +18,7 @@ fn limit(random: &mut Random) -> u64 {
     }
 }
 
-/// A burst in place of a take.
+/// A burst that is not refused for its numbers.
 pub fn poll(author: &mut Author) {
     let limit = limit(&mut author.random);
     author.say_padded(&format!("burst {limit} {LENT}"));
@@ -80,7 +80,7 @@ fn slot_counts(random: &mut Random) -> Vec<u64> {
 
 /// A queue that holds these slots and a packet more; mostly they go across the ring's end.
 fn queue_of(random: &mut Random, slots: u64) -> Record {
-    let least = (slots + MOST + 2).div_ceil(SIZE.step) * SIZE.step;
+    let least = ((slots + MOST + 1) / SIZE.step + 1) * SIZE.step;
     let size = match random.below(8) {
         0 => SIZE.upper,
         1 => least + SIZE.step,

@@ -1,5 +1,5 @@
-//! The second program: document 01's calls written a second time, from the documents alone, to be
-//! held against the proved library line by line.
+//! The second program: document 01's calls and 02's burst written a second time, from the documents
+//! alone, to be held against the proved library line by line.
 
 mod aims;
 mod author;
