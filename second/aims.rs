@@ -3,12 +3,12 @@
 use crate::author::Author;
 use crate::interrupt::{LEAVE, MOST_INTERVAL, OFF, ON};
 use crate::record::Direction;
-use crate::{bad_lines, receive_aims, transmit_aims};
+use crate::{bad_lines, burst_aims, receive_aims, transmit_aims};
 
 type Aim = fn(&mut Author);
 
 /// How often each aim is taken, against the others.
-const AIMS: [(u64, Aim); 27] = [
+const AIMS: [(u64, Aim); 31] = [
     (6, receive_aims::fresh),
     (20, receive_aims::refused_fresh),
     (20, receive_aims::post),
@@ -20,6 +20,10 @@ const AIMS: [(u64, Aim); 27] = [
     (30, receive_aims::damaged),
     (30, receive_aims::look),
     (6, receive_aims::scribble),
+    (30, burst_aims::ready),
+    (20, burst_aims::refused),
+    (12, burst_aims::traffic),
+    (10, burst_aims::write),
     (6, transmit_aims::fresh),
     (20, transmit_aims::refused_fresh),
     (40, transmit_aims::plain),
@@ -41,6 +45,8 @@ const AIMS: [(u64, Aim); 27] = [
 /// A line of thousands of pieces is long, so these come once in so many aims.
 const MANY_ONE_IN: u64 = 250;
 const LONG_ONE_IN: u64 = 30_000;
+/// Packets of five slots for the longest burst are some 170 lines.
+const LONGEST_BURST_ONE_IN: u64 = 1_000;
 
 pub fn generate(seed: u64, lines: usize) -> Vec<u8> {
     let mut author = Author::new(seed, lines);
@@ -50,6 +56,9 @@ pub fn generate(seed: u64, lines: usize) -> Vec<u8> {
         any(&mut author);
         if author.random.one_in(MANY_ONE_IN) {
             transmit_aims::many(&mut author);
+        }
+        if author.random.one_in(LONGEST_BURST_ONE_IN) {
+            burst_aims::longest(&mut author);
         }
         if author.random.one_in(LONG_ONE_IN) {
             bad_lines::long(&mut author);

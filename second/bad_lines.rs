@@ -4,13 +4,15 @@ use crate::author::Author;
 use crate::script::LONGEST_LINE;
 
 /// Good lines of every form, to be spoilt.
-const GOOD: [&str; 21] = [
+const GOOD: [&str; 23] = [
     "rx 0 32 2048",
     "rxset 0 32 0 0 2048 64 32",
     "rxpoke 0 7",
     "rxlist 0 7",
     "post 4096",
     "take",
+    "out 0 7",
+    "burst 1 96",
     "rxtail",
     "rxreg",
     "rxsum",
@@ -49,7 +51,7 @@ const UNFIT: [&str; 16] = [
 ];
 
 /// Lines that break a bound of the bench.
-const BEYOND: [&str; 34] = [
+const BEYOND: [&str; 41] = [
     "rxset 0 32 0 0 2048 16385 32",
     "rxset 0 32 0 0 2048 64 8193",
     "rxset 0 32 0 0 2048 18446744073709551615 32",
@@ -57,6 +59,13 @@ const BEYOND: [&str; 34] = [
     "rxpoke 18446744073709551615 0",
     "rxlist 8192 0",
     "rxlist 18446744073709551615 0",
+    "out 128 7",
+    "out 256 7",
+    "out 18446744073709551615 7",
+    "burst 1 129",
+    "burst 0 129",
+    "burst 33 224",
+    "burst 1 18446744073709551615",
     "txset 0 32 0 0 1518 16385 32 32",
     "txset 0 32 0 0 1518 64 8193 32",
     "txset 0 32 0 0 1518 64 32 8193",
@@ -87,7 +96,7 @@ const BEYOND: [&str; 34] = [
 ];
 
 /// Whole lines of other sorts.
-const STRAY: [&str; 30] = [
+const STRAY: [&str; 38] = [
     " ",
     "  ",
     "\t",
@@ -115,6 +124,14 @@ const STRAY: [&str; 30] = [
     "post post",
     "post 1 2",
     "take 0",
+    "out",
+    "out 0",
+    "out 0 1 2",
+    "outs 0 1",
+    "burst",
+    "burst 1",
+    "burst 1 96 0",
+    "bursts 1 96",
     "reclaim 0",
     "txsum 0",
     "caf\u{e9}",

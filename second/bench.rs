@@ -1,5 +1,8 @@
-//! The bench: one receive queue, one transmit queue, and the lines that are printed.
+//! The bench: one receive queue, one transmit queue, the burst's list, and the lines that are
+//! printed.
 
+use crate::burst;
+use crate::burst_cover::{self, Scene};
 use crate::cover::Seen;
 use crate::interrupt;
 use crate::receive::{self, Packet};
@@ -30,6 +33,8 @@ pub struct Transmit {
 pub struct Bench {
     pub rx: Receive,
     pub tx: Transmit,
+    /// The burst's list.
+    pub out: Vec<u64>,
     pub seen: Seen,
     /// The answer of the last call that had one.
     pub answer: u8,
@@ -66,6 +71,7 @@ impl Bench {
                 lent_tokens: 0,
                 lent_counts: 0,
             },
+            out: vec![0; script::OUT as usize],
             seen: Seen::new(),
             answer: 0,
         }
@@ -95,6 +101,11 @@ impl Bench {
             Command::RxList { index, value } => self.rx.list[*index] = *value,
             Command::Post { address } => self.post(*address, out),
             Command::Take => self.take(out),
+            Command::Out { index, value } => {
+                self.out[*index] = *value;
+                burst_cover::out_line(*index, *value, &mut self.seen);
+            }
+            Command::Burst { limit, length } => self.burst(*limit, *length, out),
             Command::RxTail => self.tail("rxtail", Direction::Receive, out),
             Command::RxReg => self.register("rxreg", Direction::Receive, out),
             Command::RxSum => self.rx_sum(out),
@@ -186,6 +197,25 @@ impl Bench {
         }
         let packet = judged.map(|(_, packet)| packet).unwrap_or_default();
         take_line(answer, &self.rx.record, &packet, out);
+    }
+
+    fn burst(&mut self, limit: u64, length: usize, out: &mut String) {
+        let rx = &self.rx;
+        let (ring, list) = (&rx.ring[..rx.lent_ring], &rx.list[..rx.lent_list]);
+        let came = self.out.clone();
+        let judged = burst::burst(rx.record, ring, list, &mut self.out[..length], limit);
+        let record = rx.record;
+        Scene { record, ring, list, limit, length, came: &came, judged: &judged }
+            .met(&self.out, &mut self.seen);
+        let answer = self.note("burst", &burst::answer(&judged), burst_cover::limit_kind(limit));
+        let (mut packets, mut examined) = (0, 0);
+        if let Ok(burst) = judged {
+            self.rx.record = burst.record;
+            (packets, examined) = (burst.packets, burst.examined);
+        }
+        let Record { head, posted, .. } = self.rx.record;
+        let sum = sum(&self.out);
+        let _ = writeln!(out, "burst {answer} {head} {posted} {packets} {examined} {sum}");
     }
 
     fn record(&self, direction: Direction) -> Record {

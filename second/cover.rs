@@ -1,5 +1,6 @@
 //! What a script met: calls and answers, the clause behind each answer, and each field's bits.
 
+use crate::burst_cover;
 use crate::receive::{Packet, FIELD_NAMES};
 use crate::record::bits;
 use crate::transmit::Send;
@@ -115,11 +116,12 @@ fn width_of(field: &str) -> u32 {
     }
 }
 
-/// Every answer that a call can give (`bad` has no number and stands as 0).
-const PAIRS: [(&str, &[u8]); 14] = [
+/// Every answer that a call can give (`out` has none; `bad` has no number and stands as 0).
+const PAIRS: [(&str, &[u8]); 15] = [
     ("rx", &[0, 1]),
     ("post", &[0, 1, 2, 3]),
     ("take", &[0, 1, 4, 5]),
+    ("burst", &[0, 1, 4, 5, 10]),
     ("rxtail", &[0, 1]),
     ("rxreg", &[0, 1]),
     ("rxsum", &[0]),
@@ -282,6 +284,8 @@ const BAD: &[&str] = &[
     "number above 2^64 - 1",
     "length beyond the memory held",
     "index beyond the memory held",
+    "index beyond the burst's list",
+    "length beyond the burst's list",
     "count above 65,535",
     "flag above 1",
     "kind above its last",
@@ -301,6 +305,14 @@ const CAUSES: &[(&str, u8, &[&str])] = &[
     ("take", 1, LENT_RX),
     ("take", 4, NOT_YET),
     ("take", 5, WRONG_WRITE_BACK),
+    ("burst", 0, burst_cover::LIMITS),
+    ("burst", 1, ASKED_RX),
+    ("burst", 1, HANDED_IN),
+    ("burst", 1, LENT_RX),
+    ("burst", 1, burst_cover::LENT_OUT),
+    ("burst", 4, NOT_YET),
+    ("burst", 5, WRONG_WRITE_BACK),
+    ("burst", 10, burst_cover::WRONG_LIMIT),
     ("rxtail", 1, ASKED_RX),
     ("rxtail", 1, HANDED_IN),
     ("rxreg", 1, ASKED_RX),
@@ -390,7 +402,7 @@ impl Seen {
 
     fn clauses(&self, every_clause: bool, text: &mut String) -> usize {
         let (mut clauses, mut met, mut gaps) = (0, 0, 0);
-        for (call, answer, causes) in CAUSES {
+        for (call, answer, causes) in CAUSES.iter().chain(burst_cover::CAUSES) {
             for cause in *causes {
                 let times = self.answers.get(&(*call, *answer, *cause)).copied().unwrap_or(0);
                 clauses += 1;
@@ -407,7 +419,7 @@ impl Seen {
 
     fn field_bits(&self, text: &mut String) -> usize {
         let (mut full, mut gaps) = (0, 0);
-        for name in COUNTED {
+        for name in counted() {
             let missing = self.missing(name);
             if missing.is_empty() {
                 full += 1;
@@ -416,7 +428,8 @@ impl Seen {
             gaps += 1;
             let _ = writeln!(text, "field {name}: {missing} MISSING");
         }
-        let _ = writeln!(text, "fields with each bit set and clear: {full} of {}", COUNTED.len());
+        let _ =
+            writeln!(text, "fields with each bit set and clear: {full} of {}", counted().count());
         gaps
     }
 
@@ -433,6 +446,10 @@ impl Seen {
             }
         }
     }
+}
+
+fn counted() -> impl Iterator<Item = &'static str> {
+    COUNTED.into_iter().chain(burst_cover::COUNTED)
 }
 
 fn mark(times: u64) -> &'static str {

@@ -2,7 +2,7 @@
 
 use crate::author::Author;
 use crate::script::LONGEST_LINE;
-use crate::{aims, bad_lines, fixed_receive, fixed_transmit};
+use crate::{aims, bad_lines, fixed_burst, fixed_receive, fixed_transmit};
 
 /// Random lines at the end, from a seed of their own.
 const RANDOM_LINES: usize = 4_000;
@@ -15,6 +15,7 @@ pub fn script() -> Vec<u8> {
     author.say("# and clear somewhere.");
     author.say("");
     fixed_receive::all(&mut author);
+    fixed_burst::all(&mut author);
     fixed_transmit::all(&mut author);
     bad(&mut author);
     author.say("# random lines");
@@ -32,6 +33,7 @@ fn bad(author: &mut Author) {
     author.say("# lines that are of no form, between calls that show that nothing changed");
     author.say("rx 1 32 2048");
     author.say("post 8192");
+    author.say("burst 33 96");
     author.say("tx 1 32 1518");
     bad_lines::all(author);
     author.say("# a comment may hold any bytes: \0\t\r\u{e9}");
@@ -43,7 +45,7 @@ fn bad(author: &mut Author) {
     author.say("post 00000000000000012288");
     author.say("post 000000000000000012288");
     author.say("post 18446744073709549568");
-    for call in ["rxtail", "rxsum", "txtail", "txsum"] {
+    for call in ["rxtail", "rxsum", "burst 33 96", "txtail", "txsum"] {
         author.say(call);
     }
 }

@@ -25,7 +25,7 @@ pub fn all(author: &mut Author) {
 /// Every receive call once, with what is lent summed after them.
 fn calls(author: &mut Author, address: u64) {
     author.say(format!("post {address}"));
-    for call in ["take", "rxtail", "rxreg", "rxsum"] {
+    for call in ["take", "burst 32 96", "rxtail", "rxreg", "rxsum"] {
         author.say(call);
     }
 }

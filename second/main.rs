@@ -1,13 +1,18 @@
-//! The second program: document 01's calls written a second time, from the documents alone, to be
-//! held against the proved library line by line.
+//! The second program: document 01's calls and 02's burst written a second time, from the documents
+//! alone, to be held against the proved library line by line.
 
 mod aims;
 mod author;
 mod bad_lines;
 mod bench;
+mod burst;
+mod burst_aims;
+mod burst_cover;
+mod burst_selftest;
 mod compare;
 mod cover;
 mod fixed;
+mod fixed_burst;
 mod fixed_receive;
 mod fixed_transmit;
 mod interrupt;

@@ -38,7 +38,7 @@ pub struct Packet {
     pub fields: [u64; FIELDS],
 }
 
-fn judge_lent(record: &Record, ring: usize, list: usize) -> Judged<()> {
+pub fn judge_lent(record: &Record, ring: usize, list: usize) -> Judged<()> {
     record.judge(Direction::Receive)?;
     judge_length(ring, 2 * record.size, ["ring too short", "ring too long"])?;
     judge_length(list, record.size, ["list too short", "list too long"])
@@ -56,6 +56,16 @@ pub fn post(record: Record, ring: &mut [u64], list: &mut [u64], address: u64) ->
 }
 
 pub fn take(record: Record, ring: &[u64], list: &[u64]) -> Judged<(Record, Packet)> {
+    take_counted(record, ring, list, &mut 0)
+}
+
+/// A take that adds one to `examined` for each slot whose word 1 it reads.
+pub fn take_counted(
+    record: Record,
+    ring: &[u64],
+    list: &[u64],
+    examined: &mut u64,
+) -> Judged<(Record, Packet)> {
     judge_lent(&record, ring.len(), list.len())?;
     let mut packet = Packet::default();
     for place in 0..MOST_SLOTS {
@@ -64,6 +74,7 @@ pub fn take(record: Record, ring: &[u64], list: &[u64]) -> Judged<(Record, Packe
         }
         let slot = record.slot(place as u64);
         let word1 = ring[2 * slot + 1];
+        *examined += 1;
         judge_slot(place, word1, record.limit)?;
         packet.addresses[place] = list[slot];
         packet.lengths[place] = length_of(word1);

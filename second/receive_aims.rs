@@ -1,6 +1,7 @@
 //! What a random script tries on the receive queue.
 
 use crate::author::{Author, Random};
+use crate::burst_aims::{poll, take_or_poll};
 use crate::receive::MOST_SLOTS;
 use crate::record::{Direction, Record, BUFFER, SIZE};
 
@@ -70,7 +71,7 @@ pub fn refused_post(author: &mut Author) {
 }
 
 /// A write-back's word 1 with this length; the fields and the reserved bits are random.
-fn word1(random: &mut Random, length: u64, eop: bool) -> u64 {
+pub fn word1(random: &mut Random, length: u64, eop: bool) -> u64 {
     let mut word = match random.below(3) {
         0 => 0,
         _ => random.next(),
@@ -100,7 +101,7 @@ fn write_back(author: &mut Author, distance: u64, length: u64, eop: bool) {
     author.say(format!("rxpoke {} {word1}", 2 * slot + 1));
 }
 
-fn length(random: &mut Random, buffer: u64) -> u64 {
+pub fn length(random: &mut Random, buffer: u64) -> u64 {
     match random.below(5) {
         0 => 1,
         1 => buffer,
@@ -111,7 +112,7 @@ fn length(random: &mut Random, buffer: u64) -> u64 {
 }
 
 /// The device writes a packet by its rules into the oldest slots not yet written.
-fn device_packet(author: &mut Author) {
+pub fn device_packet(author: &mut Author) {
     if !author.sound(Direction::Receive) {
         return;
     }
@@ -135,7 +136,7 @@ fn device_packet(author: &mut Author) {
         write_back(author, first + place, bytes, last);
         if author.random.one_in(6) {
             // taken while the packet is unfinished
-            author.say("take");
+            take_or_poll(author);
         }
     }
 }
@@ -148,7 +149,7 @@ pub fn traffic(author: &mut Author) {
         if author.random.one_in(2) {
             device_packet(author);
         }
-        author.say("take");
+        take_or_poll(author);
         author.say("take");
     }
 }
@@ -172,12 +173,12 @@ pub fn damaged_write_back(author: &mut Author) {
     let bytes = random.pick(&[0, 0, 1, record.limit, record.limit + 1, longest]);
     let eop = random.one_in(2);
     write_back(author, place, bytes, eop);
-    author.say("take");
+    take_or_poll(author);
     mend(author);
 }
 
 /// Clears DD at head, or hands the head on, so that the queue does not stay stuck.
-fn mend(author: &mut Author) {
+pub fn mend(author: &mut Author) {
     let record = author.bench.rx.record;
     if author.answer() != 5 || !author.sound(Direction::Receive) {
         return;
@@ -207,10 +208,10 @@ pub fn stale(author: &mut Author) {
         let bytes = length(&mut author.random, record.limit);
         write_back(author, distance, bytes, false);
     }
-    author.say("take");
+    take_or_poll(author);
     if author.random.one_in(2) {
         post(author);
-        author.say("take");
+        take_or_poll(author);
     }
 }
 
@@ -249,6 +250,7 @@ fn all_calls(author: &mut Author) {
     author.say("rxreg");
     author.say(format!("post {address}"));
     author.say("take");
+    poll(author);
     if author.random.one_in(3) {
         author.say("rxsum");
     }
@@ -272,6 +274,6 @@ pub fn scribble(author: &mut Author) {
     let index = if random.one_in(8) { bound - 1 } else { random.below(bound) % 256 };
     let value = random.any();
     author.say_padded(&format!("{word} {index} {value}"));
-    author.say("take");
+    take_or_poll(author);
     mend(author);
 }

@@ -7,6 +7,7 @@
 //! - a space at either end makes an empty word;
 //! - ENABLE above 2 is treated like a kind above 3;
 //! - A or L above 8,192 is a length beyond the memory held;
+//! - LIMIT is any number, which the burst judges, and LENGTH is judged by the bench before it;
 //! - text after the last line end is a line, nothing after it is not.
 
 use crate::interrupt;
@@ -15,6 +16,7 @@ use crate::transmit::Send;
 
 pub const RING: u64 = 16_384;
 pub const LIST: u64 = 8_192;
+pub const OUT: u64 = 128;
 pub const LONGEST_LINE: usize = 524_288;
 pub const MOST_DIGITS: usize = 20;
 
@@ -26,6 +28,8 @@ pub enum Command {
     RxList { index: usize, value: u64 },
     Post { address: u64 },
     Take,
+    Out { index: usize, value: u64 },
+    Burst { limit: u64, length: usize },
     RxTail,
     RxReg,
     RxSum,
@@ -53,6 +57,7 @@ impl Command {
             Command::RxSet { .. }
                 | Command::RxPoke { .. }
                 | Command::RxList { .. }
+                | Command::Out { .. }
                 | Command::TxSet { .. }
                 | Command::TxPoke { .. }
                 | Command::TxToken { .. }
@@ -104,13 +109,15 @@ const fn form(name: &'static str, numbers: usize) -> Form {
 const SEND_NUMBERS: usize = 13;
 
 /// Each line's word, and how many numbers follow (`send`: before its addresses).
-const FORMS: [Form; 20] = [
+const FORMS: [Form; 22] = [
     form("rx", 3),
     form("rxset", 7),
     form("rxpoke", 2),
     form("rxlist", 2),
     form("post", 1),
     form("take", 0),
+    form("out", 2),
+    form("burst", 2),
     form("rxtail", 0),
     form("rxreg", 0),
     form("rxsum", 0),
@@ -162,6 +169,8 @@ fn command(name: &str, n: &[u64]) -> Result<Command, Bad> {
         "rxlist" => Command::RxList { index: index(n[0], LIST)?, value: n[1] },
         "post" => Command::Post { address: n[0] },
         "take" => Command::Take,
+        "out" => Command::Out { index: out_index(n[0])?, value: n[1] },
+        "burst" => Command::Burst { limit: n[0], length: out_length(n[1])? },
         "rxtail" => Command::RxTail,
         "rxreg" => Command::RxReg,
         "rxsum" => Command::RxSum,
@@ -200,6 +209,14 @@ fn index(value: u64, held: u64) -> Result<usize, Bad> {
         return Err("index beyond the memory held");
     }
     Ok(value as usize)
+}
+
+fn out_index(value: u64) -> Result<usize, Bad> {
+    index(value, OUT).map_err(|_| "index beyond the burst's list")
+}
+
+fn out_length(value: u64) -> Result<usize, Bad> {
+    lent(value, OUT).map_err(|_| "length beyond the burst's list")
 }
 
 fn count(value: u64) -> Result<u16, Bad> {

@@ -1,4 +1,5 @@
-//! The program's own checks: the paper's examples, and answer 8 against a count byte by byte.
+//! The program's own checks: the paper's examples, answer 8 against a count byte by byte, and the
+//! burst's.
 
 use crate::author::Random;
 use crate::interrupt;
@@ -7,16 +8,16 @@ use crate::receive::{self, FIELD_NAMES};
 use crate::record::{bits, Direction, Record};
 use crate::segments;
 use crate::transmit::{self, Lent, Send};
-use crate::{aims, answers, compare, fixed};
+use crate::{aims, answers, burst_selftest, compare, fixed};
 use std::process::exit;
 
-struct Checks {
+pub struct Checks {
     made: usize,
     failed: usize,
 }
 
 impl Checks {
-    fn equal<T: PartialEq + std::fmt::Debug>(&mut self, what: &str, found: T, wanted: T) {
+    pub fn equal<T: PartialEq + std::fmt::Debug>(&mut self, what: &str, found: T, wanted: T) {
         self.made += 1;
         if found != wanted {
             self.failed += 1;
@@ -34,6 +35,7 @@ pub fn run() {
     ends_of_the_paper(&mut checks);
     touched_twice(&mut checks);
     read_back(&mut checks);
+    burst_selftest::all(&mut checks);
     script_lines(&mut checks);
     scripts(&mut checks);
     println!("selftest: {} checks, {} failed", checks.made, checks.failed);
