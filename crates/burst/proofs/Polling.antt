@@ -3,13 +3,13 @@
 use Prim.Native.Nat.{ℕ, suc, _+_, _-_, _*_, _≤_, _<_}
 use mathlib.Core.Path.{_≡_, refl, sym, ap, _∙_}
 use mathlib.Core.Logic.{_≢_}
-use mathlib.Core.Bool.{true, cond}
+use mathlib.Core.Bool.{cond}
 use mathlib.Core.List.{List, [], _∷_, _++_, append-assoc, append-nil}
 use native.Mathlib.Nat.{add-zero, zero-add, add-assoc, sub-zero}
 use native.Mathlib.Omega.{arith}
 use borrow.Author.Tests.{eq-eqb, ne-eqb}
 use lib.Dec.{eqb}
-use lib.ListN.{length, take, drop, length-append}
+use lib.ListN.{length, drop, length-append}
 use lib.Seq.{length-take-le, length-front, take-at, drop-append-add, drop-drop, sets, sets-eq}
 use Rattle.ring.specs.declared.Queue.{Queue}
 use Rattle.ring.specs.Queue.{Shared}
@@ -18,9 +18,8 @@ use Rattle.scan.specs.Slots.{postedSlots}
 use Rattle.scan.specs.Scan.{packetSlots, examined, Look, refuse, whole, scan}
 use Rattle.scan.proofs.Scans.{reads-few}
 use Rattle.burst.specs.declared.Found.{Found}
-use Rattle.burst.specs.declared.Polled.{Polled}
-use Rattle.burst.specs.Sizes.{packetNumbers, burstNumbers}
-use Rattle.burst.specs.Polls.{foundBy, foundIn, Outcome, stop, ahead, polls, writtenTo}
+use Rattle.burst.specs.Sizes.{packetNumbers}
+use Rattle.burst.specs.Polls.{foundBy, Outcome, stop, ahead, polls, writtenTo}
 use Rattle.burst.specs.Steps.{Reads, Polls, FoundAs, PolledAs}
 
 -- ---- packets before packets

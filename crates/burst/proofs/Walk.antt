@@ -1,11 +1,10 @@
 -- The walk over one packet's slots, from slot to slot: what is known after k of them, and what each way out finds. It is scan's walk, whatever the
 -- companion list. Assumes nothing.
 use Prim.Native.Nat.{ℕ, _+_, _≤_, _<_}
-use mathlib.Core.Path.{_≡_, ap, _∙_}
+use mathlib.Core.Path.{_≡_, _∙_}
 use mathlib.Core.Bool.{Bool, true, false}
-use mathlib.Core.List.{List, []}
+use mathlib.Core.List.{List}
 use native.Mathlib.Omega.{arith}
-use lib.ListN.{length}
 use Rattle.ring.specs.declared.Queue.{Queue}
 use Rattle.ring.specs.Queue.{Shared, advanced}
 use Rattle.ring.specs.Memory.{numbersAt}
@@ -13,7 +12,7 @@ use Rattle.ring.specs.Steps.{SlotIs}
 use Rattle.ring.proofs.Steps.{here-is, on-is}
 use Rattle.ring.proofs.Runs.{length-run}
 use Rattle.places.specs.Words.{Words, dd, eop, lengthOf}
-use Rattle.scan.specs.Slots.{wordsOf, slotIn}
+use Rattle.scan.specs.Slots.{wordsOf}
 use Rattle.scan.specs.Scan.{allowed, Look, refuse}
 use Rattle.scan.proofs.Walk.{Walked, scanned, slotsRead, first, at-end, read-at-end, at-clear, read-at-clear, at-wrong, read-at-wrong, next, complete, read-complete, total-more}
 use Rattle.burst.specs.declared.Found.{Found}

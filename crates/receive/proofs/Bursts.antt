@@ -1,34 +1,33 @@
 -- A burst is its takes, one after another: what the code's walk comes to, how many slots are examined, and what a burst leaves.
 -- Assumes nothing.
-use Prim.Native.Nat.{ℕ, zero, suc, _+_, _*_, _≤_}
+use Prim.Native.Nat.{ℕ, zero, suc, _+_, _*_, _≤_, _<_}
 use mathlib.Core.Path.{_≡_, refl, sym, ap, _∙_}
-use mathlib.Core.Logic.{_≢_, _⊎_, inl, inr}
-use mathlib.Core.Bool.{Bool, true, false, not, _&&_, cond}
-use mathlib.Core.List.{List, [], _∷_, map}
+use mathlib.Core.Logic.{_≢_, _⊎_}
+use mathlib.Core.Bool.{Bool, true, false, _&&_, cond}
+use mathlib.Core.List.{List, [], _∷_, _++_, map}
 use native.Mathlib.Nat.{add-zero}
-use native.Mathlib.Decide.{ℕ-discrete}
 use native.Mathlib.Omega.{arith}
 use borrow.Author.Tests.{eqb-true, eqb-false, eq-eqb, ne-eqb, not-false}
 use lib.Dec.{eqb}
-use lib.ListN.{length}
-use Rattle.rules.specs.Rules.{within, _when_, answerOf, Answers}
+use lib.ListN.{length, getD, drop}
+use lib.Seq.{getD-append-add, getD-drop}
+use Rattle.rules.specs.Rules.{_when_}
 use Rattle.rules.proofs.Tests.{both, within-is}
-use Rattle.rules.proofs.Checks.{has-cause, is-answered, passed, asked-next}
-use Rattle.ring.specs.declared.Queue.{Queue}
+use Rattle.rules.proofs.Checks.{passed, asked-next, first-pass}
 use Rattle.scan.specs.Slots.{postedSlots}
 use Rattle.scan.specs.Scan.{packetSlots, examined, Look, refuse, whole, scan}
 use Rattle.scan.specs.Told.{sum}
 use Rattle.scan.proofs.Scans.{refused-with, reads-few}
 use Rattle.burst.specs.declared.Found.{Found}
 use Rattle.burst.specs.declared.Polled.{Polled}
-use Rattle.burst.specs.Sizes.{mostPackets, burstNumbers}
-use Rattle.burst.specs.Polls.{foundBy, foundIn, Outcome, stop, ahead, polls, writtenTo}
+use Rattle.burst.specs.Sizes.{mostPackets, packetNumbers, burstNumbers}
+use Rattle.burst.specs.Polls.{foundBy, foundIn, Outcome, stop, ahead, polls}
 use Rattle.burst.specs.Steps.{Polls, PolledAs}
 use Rattle.receive.specs.declared.RxQueue.{RxQueue}
 use Rattle.receive.specs.declared.Taken.{Taken}
 use Rattle.receive.specs.Queue.{recordOk, lentOk, movedTo}
-use Rattle.receive.specs.Take.{look, packetOf, advanced, takeBy, takeOf}
-use Rattle.receive.specs.Burst.{Made, takesFrom, stoppedBy, carried, handing, told, examinedBy, refusals, refusalOf, refusal, made, burstChecks, burstOf, outAfter, BurstAs, Nothing}
+use Rattle.receive.specs.Take.{look, packetOf, takeBy, takeOf}
+use Rattle.receive.specs.Burst.{Made, takesFrom, stoppedBy, carried, handing, told, examinedBy, refusals, refusalOf, refusal, made, burstOf, outAfter, BurstAs, Nothing}
 use Rattle.receive.proofs.Laws.{lent}
 use Rattle.receive.proofs.Keeps.{advanced-ok, take-keeps}
 
@@ -122,7 +121,7 @@ outcome ring list q ms =
 
 module _ (ring list : List ℕ) where
   -- what holds of no takes, of a take that hands up before others, and of one that stops them, holds of all takes
-  by-takes : (P : ℕ → RxQueue → List Made → Type 0)
+  pub by-takes : (P : ℕ → RxQueue → List Made → Type 0)
       → ((q : RxQueue) → P 0 q [])
       → ((n : ℕ) (q : RxQueue) (ms : List Made) → t q ring list .answer ≡ 0 → P n (t q ring list .queue) ms → P (suc n) q (this q ring list ∷ ms))
       → ((n : ℕ) (q : RxQueue) → t q ring list .answer ≢ 0 → P (suc n) q (this q ring list ∷ []))
@@ -231,6 +230,37 @@ module _ (q : RxQueue) (ring list out : List ℕ) (limit : ℕ) where
   unfolding burstOf outAfter made carried handing told sum
   refused ne = let e = ne-eqb _ _ ne in record { result-is = rw (answer-is, e); out-same = rw e }
 
+  -- what holds of no takes and of the takes up to the limit holds of those made
+  of-made : (P : List Made → Type 0) → P [] → P takes → P (made q ring list out limit)
+  unfolding made
+  of-made P none some = go (eqb (refusal q ring list out limit) 0)
+    where
+      go : (b : Bool) → P (cond b takes [])
+      go true = some
+      go false = none
+
+  -- the slots examined are at most five times the packets plus five, whatever came of it
+  pub burst-few : burstOf q ring list out limit .examined ≤ packetSlots * burstOf q ring list out limit .packets + packetSlots
+  unfolding burstOf handing sum
+  burst-few =
+      of-made (λ ms. sum (map (examinedBy ring list) ms) ≤ packetSlots * length (handing ms) + packetSlots)
+      (omega arith)
+      (go (eqb (stoppedBy takes) 0) (few ring list limit q))
+    where
+      go : (b : Bool) → sum (map (examinedBy ring list) takes) ≤ packetSlots * length (handing takes) + cond b 0 packetSlots
+          → sum (map (examinedBy ring list) takes) ≤ packetSlots * length (handing takes) + packetSlots
+      go true h = omega arith
+      go false h = h
+
+  -- no more packets than the limit
+  pub burst-within : burstOf q ring list out limit .packets ≤ limit
+  unfolding burstOf handing
+  burst-within = of-made (λ ms. length (handing ms) ≤ limit) (omega arith) (within-limit ring list limit q)
+
+  pub burst-keeps : recordOk q ≡ true → recordOk (burstOf q ring list out limit .queue) ≡ true
+  unfolding burstOf carried
+  burst-keeps ok = of-made (λ ms. recordOk (carried q ms) ≡ true) ok (carried-keeps ring list limit q ok)
+
   pub refused-as : (n : ℕ) → n ≡ refusal q ring list out limit → n ≢ 0 → BurstAs q ring list out limit (record { answer = n; queue = q; packets = 0; examined = 0 }) out
   refused-as n e ne =
       let r = refused (λ z. ne (e ∙ z)) in
@@ -266,6 +296,10 @@ module _ (q : RxQueue) (ring list out : List ℕ) (limit : ℕ) where
     unfolding burstOf
     burst-is = rw (answer-is, eq-eqb _ _ z, all-made)
 
+    -- a take that stops it answers 4 or 5
+    pub burst-stops : burstOf q ring list out limit .answer ≢ 0 → (burstOf q ring list out limit .answer ≡ 4) ⊎ (burstOf q ring list out limit .answer ≡ 5)
+    burst-stops = rw burst-is (stops-with ring list limit q (passes .0))
+
     -- and what it says is the burst
     pub as-burst : (r : Polled) (out′ : List ℕ) → PolledAs (q .shared) (q .buffer) ring out limit r out′
         → BurstAs q ring list out limit (record { answer = r .answer; queue = movedTo q (r .queue); packets = r .packets; examined = r .examined }) out′
@@ -276,3 +310,55 @@ module _ (q : RxQueue) (ring list out : List ℕ) (limit : ℕ) where
           result-is = rw (p .result-is list ∙ ap (λ (o : Outcome). o .result) e, burst-is) (rw (← carried-is));
           out-is = p .out-is list ∙ rw (e, all-made);
         }
+
+-- ---- where the limit stopped it
+
+module _ (q : RxQueue) (ring list out : List ℕ) (limit : ℕ) (z : burstOf q ring list out limit .answer ≡ 0) where
+  accepted : refusal q ring list out limit ≡ 0
+  unfolding burstOf refusalOf
+  accepted = first-pass (refusals q (length ring) (length list) (length out) limit) (stoppedBy (made q ring list out limit) when true ∷ []) tt z
+
+  not-stopped : stoppedBy (takes q ring list out limit) ≡ 0
+  not-stopped = rw (burst-is q ring list out limit refl accepted) at z
+
+  -- as many packets as the limit, and the slots examined are at most five times these
+  pub burst-up-to : burstOf q ring list out limit .packets ≡ limit
+  burst-up-to = rw (burst-is q ring list out limit refl accepted) (up-to-limit ring list limit q not-stopped)
+
+  pub burst-full : burstOf q ring list out limit .examined ≤ packetSlots * burstOf q ring list out limit .packets
+  burst-full = rw (burst-is q ring list out limit refl accepted) (omega (arith, rw not-stopped at (few ring list limit q)))
+
+-- ---- the list's places
+
+told-long : (ms : List Made) → length (told ms) ≡ packetNumbers * length ms
+unfolding told
+told-long [] = refl
+told-long (m ∷ ms) = omega (arith, told-long ms)
+
+-- three places a packet
+told-at : (ms : List Made) (rest : List ℕ) (i j : ℕ) (z : Made) → i < length ms → j < packetNumbers
+    → getD (told ms ++ rest) (packetNumbers * i + j) 0 ≡ getD (told (getD ms i z ∷ [])) j 0
+unfolding told
+told-at [] rest i j z h l = absurd (omega arith)
+told-at (m ∷ ms) rest zero zero z h l = refl
+told-at (m ∷ ms) rest zero (suc zero) z h l = refl
+told-at (m ∷ ms) rest zero (suc (suc zero)) z h l = refl
+told-at (m ∷ ms) rest zero (suc (suc (suc j))) z h l = absurd (omega arith)
+told-at (m ∷ ms) rest (suc i) j z h l =
+    let e : packetNumbers * suc i + j ≡ suc (suc (suc (packetNumbers * i + j))) = omega arith in
+    rw e (told-at ms rest i j z (omega arith) l)
+
+module _ (q : RxQueue) (ring list out : List ℕ) (limit : ℕ) where
+  -- packet i has its three numbers at places 3i to 3i + 2
+  pub place-at : (i j : ℕ) (z : Made) → i < burstOf q ring list out limit .packets → j < packetNumbers
+      → getD (outAfter q ring list out limit) (packetNumbers * i + j) 0 ≡ getD (told (getD (handing (made q ring list out limit)) i z ∷ [])) j 0
+  unfolding burstOf outAfter
+  place-at i j z h l = told-at (handing (made q ring list out limit)) _ i j z h l
+
+  -- the places past them stay
+  pub place-past : (i : ℕ) → getD (outAfter q ring list out limit) (packetNumbers * burstOf q ring list out limit .packets + i) 0
+      ≡ getD out (packetNumbers * burstOf q ring list out limit .packets + i) 0
+  unfolding burstOf outAfter
+  place-past i =
+      let ns : List ℕ = told (handing (made q ring list out limit)) in
+      rw (← told-long (handing (made q ring list out limit))) (getD-append-add ns (drop (length ns) out) i 0 ∙ getD-drop (length ns) out i 0)

@@ -18,6 +18,7 @@ use Rattle.receive.specs.declared.Fresh.{Fresh}
 use Rattle.receive.specs.Queue.{bufferOk, recordOk, lentOk, emptyQueue, freshOf}
 use Rattle.receive.specs.Post.{postChecks, postAnswer, answerTo}
 use Rattle.receive.specs.Take.{look, takeChecks, takeBy, takeOf}
+use Rattle.receive.specs.Burst.{burstChecks, burstOf}
 
 -- ---- fresh: 1 exactly if the empty record is not accepted, so exactly if a number is outside its line
 
@@ -62,3 +63,14 @@ module _ (q : RxQueue) (ring list : List ℕ) where
   -- 0 too: a check of EOP that is the first to hold
   pub take-answered : (n i : ℕ) → Answers (takeChecks q ring list) n i → takeOf q ring list .answer ≡ n
   take-answered n i a = take-answer ∙ is-answered (takeChecks q ring list) n i a
+
+-- ---- burst: 1, 10, then what stops its takes
+
+module _ (q : RxQueue) (ring list out : List ℕ) (limit n : ℕ) where
+  pub burst-cause : burstOf q ring list out limit .answer ≡ n → n ≢ 0 → (i : ℕ) × Answers (burstChecks q ring list out limit) n i
+  unfolding burstOf
+  burst-cause e ne = has-cause (burstChecks q ring list out limit) n e ne
+
+  pub burst-answered : (i : ℕ) → Answers (burstChecks q ring list out limit) n i → burstOf q ring list out limit .answer ≡ n
+  unfolding burstOf
+  burst-answered i a = is-answered (burstChecks q ring list out limit) n i a

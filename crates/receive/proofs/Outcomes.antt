@@ -12,6 +12,7 @@ use Rattle.receive.specs.declared.Taken.{Taken}
 use Rattle.receive.specs.Queue.{freshOf, tailValueOf, tailRegisterOf}
 use Rattle.receive.specs.Post.{postOf, ringAfter, listAfter, Outcome, Meets}
 use Rattle.receive.specs.Take.{takeOf}
+use Rattle.receive.specs.Burst.{burstOf, outAfter, BurstOutcome, BurstMeets}
 
 pub fresh-alike : (queue size buffer : ℕ) (a b : Fresh) → a ≡ freshOf queue size buffer → b ≡ freshOf queue size buffer → a ≡ b
 fresh-alike queue size buffer = alike (equation (freshOf queue size buffer))
@@ -31,3 +32,10 @@ module _ (q : RxQueue) (ring list : List ℕ) (address : ℕ) where
 
   pub post-alike : (a b : Outcome) → Meets q ring list address a → Meets q ring list address b → a ≡ b
   post-alike = alike post-fixes
+
+module _ (q : RxQueue) (ring list out : List ℕ) (limit : ℕ) where
+  burst-fixes : Fixes (BurstMeets q ring list out limit) (record { result = burstOf q ring list out limit; out = outAfter q ring list out limit })
+  burst-fixes o p = rw (← p .result-is, ← p .out-is)
+
+  pub burst-alike : (a b : BurstOutcome) → BurstMeets q ring list out limit a → BurstMeets q ring list out limit b → a ≡ b
+  burst-alike = alike burst-fixes
