@@ -2,16 +2,17 @@
 -- Assumes nothing.
 use Prim.Native.Nat.{ℕ, zero, suc, _+_, _*_, _≤_, _<_}
 use mathlib.Core.Path.{_≡_, refl, sym, ap, _∙_}
-use mathlib.Core.Logic.{_≢_, _⊎_}
-use mathlib.Core.Bool.{Bool, true, false, _&&_, cond}
+use mathlib.Core.Logic.{_≢_, _⊎_, inl, inr, ⊎-elim}
+use mathlib.Core.Bool.{Bool, true, false, not, _&&_, cond}
 use mathlib.Core.List.{List, [], _∷_, _++_, map}
 use native.Mathlib.Nat.{add-zero}
+use native.Mathlib.Decide.{ℕ-discrete}
 use native.Mathlib.Omega.{arith}
 use borrow.Author.Tests.{eqb-true, eqb-false, eq-eqb, ne-eqb, not-false}
 use lib.Dec.{eqb}
 use lib.ListN.{length, getD, drop}
 use lib.Seq.{getD-append-add, getD-drop}
-use Rattle.rules.specs.Rules.{_when_}
+use Rattle.rules.specs.Rules.{within, _when_}
 use Rattle.rules.proofs.Tests.{both, within-is}
 use Rattle.rules.proofs.Checks.{passed, asked-next, first-pass}
 use Rattle.scan.specs.Slots.{postedSlots}
@@ -25,10 +26,12 @@ use Rattle.burst.specs.Polls.{foundBy, foundIn, Outcome, stop, ahead, polls}
 use Rattle.burst.specs.Steps.{Polls, PolledAs}
 use Rattle.receive.specs.declared.RxQueue.{RxQueue}
 use Rattle.receive.specs.declared.Taken.{Taken}
+use Rattle.receive.specs.declared.Burst.{Burst}
 use Rattle.receive.specs.Queue.{recordOk, lentOk, movedTo}
 use Rattle.receive.specs.Take.{look, packetOf, takeBy, takeOf}
 use Rattle.receive.specs.Burst.{Made, takesFrom, stoppedBy, carried, handing, told, examinedBy, refusals, refusalOf, refusal, made, burstOf, outAfter, BurstAs, Nothing}
 use Rattle.receive.proofs.Laws.{lent}
+use Rattle.receive.proofs.Takes.{take-refused}
 use Rattle.receive.proofs.Keeps.{advanced-ok, take-keeps}
 
 -- ---- one take
@@ -41,10 +44,10 @@ record Same (f : Found) (t : Taken) : Type 0 where
   total-same : f .total ≡ t .packet .total
 
 module _ (q : RxQueue) (ring list : List ℕ) where
-  abbrev t : Taken
+  abbrev pub t : Taken
   t = takeOf q ring list
 
-  abbrev this : Made
+  abbrev pub this : Made
   this = record { on = q; taken = t }
 
   -- a take leaves the buffer size
@@ -201,6 +204,16 @@ module _ (ring list : List ℕ) where
       (λ n q ms z r ok. rw (eq-eqb _ _ z) (r (still-lent q ring list ok)))
       (λ n q ne ok. rw (ne-eqb _ _ ne) (λ x. answers-with q ring list ok ne))
 
+  -- and so does a take behind it
+  pub stops-again : (n : ℕ) (q : RxQueue) → stoppedBy (takesFrom ring list n q) ≢ 0
+      → takeOf (carried q (takesFrom ring list n q)) ring list .answer ≡ stoppedBy (takesFrom ring list n q)
+  unfolding stoppedBy carried
+  stops-again =
+      by-takes (λ n q ms. stoppedBy ms ≢ 0 → takeOf (carried q ms) ring list .answer ≡ stoppedBy ms)
+      (λ q ne. absurd (ne refl))
+      (λ n q ms z r. rw (eq-eqb _ _ z) r)
+      (λ n q ne. rw (ne-eqb _ _ ne) (λ x. ap (λ (r : RxQueue). takeOf r ring list .answer) (ap (λ (y : Taken). y .queue) (take-refused q ring list ne))))
+
   -- ---- the slots examined: at most five a take, so five a packet, and five more where a take stopped it
 
   take-few : (m : Made) → examinedBy ring list m ≤ packetSlots
@@ -217,6 +230,9 @@ module _ (ring list : List ℕ) where
 
 -- ---- the burst
 
+abbrev oneOrTen : Bool → Bool → ℕ
+oneOrTen a b = cond a 1 (cond b 10 0)
+
 module _ (q : RxQueue) (ring list out : List ℕ) (limit : ℕ) where
   abbrev takes : List Made
   takes = takesFrom ring list limit q
@@ -231,7 +247,7 @@ module _ (q : RxQueue) (ring list out : List ℕ) (limit : ℕ) where
   refused ne = let e = ne-eqb _ _ ne in record { result-is = rw (answer-is, e); out-same = rw e }
 
   -- what holds of no takes and of the takes up to the limit holds of those made
-  of-made : (P : List Made → Type 0) → P [] → P takes → P (made q ring list out limit)
+  pub of-made : (P : List Made → Type 0) → P [] → P takes → P (made q ring list out limit)
   unfolding made
   of-made P none some = go (eqb (refusal q ring list out limit) 0)
     where
@@ -260,6 +276,16 @@ module _ (q : RxQueue) (ring list out : List ℕ) (limit : ℕ) where
   pub burst-keeps : recordOk q ≡ true → recordOk (burstOf q ring list out limit .queue) ≡ true
   unfolding burstOf carried
   burst-keeps ok = of-made (λ ms. recordOk (carried q ms) ≡ true) ok (carried-keeps ring list limit q ok)
+
+  -- a refusal is 1 or 10
+  refuses-with : refusal q ring list out limit ≢ 0 → (refusal q ring list out limit ≡ 1) ⊎ (refusal q ring list out limit ≡ 10)
+  unfolding refusalOf
+  refuses-with = go (not (lentOk q (length ring) (length list) && eqb (length out) burstNumbers)) (not (within 1 mostPackets limit))
+    where
+      go : (a b : Bool) → oneOrTen a b ≢ 0 → (oneOrTen a b ≡ 1) ⊎ (oneOrTen a b ≡ 10)
+      go true b ne = inl refl
+      go false true ne = inr refl
+      go false false ne = absurd (ne refl)
 
   pub refused-as : (n : ℕ) → n ≡ refusal q ring list out limit → n ≢ 0 → BurstAs q ring list out limit (record { answer = n; queue = q; packets = 0; examined = 0 }) out
   refused-as n e ne =
@@ -362,3 +388,16 @@ module _ (q : RxQueue) (ring list out : List ℕ) (limit : ℕ) where
   place-past i =
       let ns : List ℕ = told (handing (made q ring list out limit)) in
       rw (← told-long (handing (made q ring list out limit))) (getD-append-add ns (drop (length ns) out) i 0 ∙ getD-drop (length ns) out i 0)
+
+module _ (q : RxQueue) (ring list out : List ℕ) (limit : ℕ) where
+  -- after 4, a take answers 4
+  pub four-again : burstOf q ring list out limit .answer ≡ 4 → takeOf (burstOf q ring list out limit .queue) ring list .answer ≡ 4
+  four-again e = go (ℕ-discrete (refusal q ring list out limit) 0)
+    where
+      go : Dec (refusal q ring list out limit ≡ 0) → takeOf (burstOf q ring list out limit .queue) ring list .answer ≡ 4
+      go (yes z) =
+          let s : stoppedBy (takes q ring list out limit) ≡ 4 = rw (burst-is q ring list out limit refl z) at e in
+          rw (burst-is q ring list out limit refl z) (stops-again ring list limit q (λ x. omega arith) ∙ s)
+      go (no ne) =
+          let r : refusal q ring list out limit ≡ 4 = sym (ap (λ (b : Burst). b .answer) (refused q ring list out limit ne .result-is)) ∙ e in
+          absurd (⊎-elim (λ x. omega arith) (λ x. omega arith) (refuses-with q ring list out limit ne))
