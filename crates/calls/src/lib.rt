@@ -7,6 +7,7 @@ use forms::Said;
 use receive_lines::Rx;
 use script::Given;
 use script::NUMBERS;
+use script::OUT;
 use script::RING;
 use script::Row;
 use script::SLOTS;
@@ -48,6 +49,7 @@ pub fn call(
     numbers: &[u64; NUMBERS],
     rx_ring: &mut [u64; RING],
     rx_list: &mut [u64; SLOTS],
+    burst_list: &mut [u64; OUT],
     tx_ring: &mut [u64; RING],
     tokens: &mut [u64; SLOTS],
     counts: &mut [u16; SLOTS],
@@ -56,7 +58,7 @@ pub fn call(
     let given = said.given;
     let rx = bench.rx;
     let tx = bench.tx;
-    let received = receive_lines::line(command, given, rx, rx_ring, rx_list);
+    let received = take_lines::line(command, given, rx, rx_ring, rx_list, burst_list);
     let passed = send_lines::line(command, given, numbers, tx, tx_ring, tokens, counts);
     let rx = received.rx;
     let tx = passed.tx;

@@ -7,7 +7,7 @@ use lib.Dec.{ltb, eqb}
 use lib.ListN.{length, getD}
 use Rattle.command.specs.Bytes.{bytesOf}
 use Rattle.command.specs.declared.Command.{Command}
-use Rattle.command.specs.declared.Command.the-variants.{Unknown, Rx, RxSet, RxPoke, RxList, Post, Take, RxTail, RxReg, RxSum, Tx, TxSet, TxPoke, TxToken, TxCount, Send, Reclaim, TxTail, TxReg, TxSum, Int}
+use Rattle.command.specs.declared.Command.the-variants.{Unknown, Rx, RxSet, RxPoke, RxList, Post, Take, Out, Burst, RxTail, RxReg, RxSum, Tx, TxSet, TxPoke, TxToken, TxCount, Send, Reclaim, TxTail, TxReg, TxSum, Int}
 
 -- a word and the command that it names
 pub record Entry : Type 0 where
@@ -22,6 +22,8 @@ commands =
     ∷ record { word = bytesOf "rxlist"; names = RxList }
     ∷ record { word = bytesOf "post"; names = Post }
     ∷ record { word = bytesOf "take"; names = Take }
+    ∷ record { word = bytesOf "out"; names = Out }
+    ∷ record { word = bytesOf "burst"; names = Burst }
     ∷ record { word = bytesOf "rxtail"; names = RxTail }
     ∷ record { word = bytesOf "rxreg"; names = RxReg }
     ∷ record { word = bytesOf "rxsum"; names = RxSum }

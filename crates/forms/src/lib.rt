@@ -6,6 +6,7 @@ use feed::Line;
 use script::GIVEN;
 use script::Given;
 use script::NUMBERS;
+use script::OUT;
 use script::RING;
 use script::SLOTS;
 use words::is_silent;
@@ -41,6 +42,8 @@ fn count_of(command: Command, given: Given) -> u64 {
         Command::RxPoke => 2,
         Command::RxList => 2,
         Command::Post => 1,
+        Command::Out => 2,
+        Command::Burst => 2,
         Command::Tx => 3,
         Command::TxSet => 8,
         Command::TxPoke => 2,
@@ -76,6 +79,8 @@ fn in_range(command: Command, given: Given) -> bool {
         Command::RxSet => (given.n5 <= RING as u64) & (given.n6 <= SLOTS as u64),
         Command::RxPoke => given.n0 < RING as u64,
         Command::RxList => given.n0 < SLOTS as u64,
+        Command::Out => given.n0 < OUT as u64,
+        Command::Burst => given.n1 <= OUT as u64,
         Command::TxSet => is_txset(given),
         Command::TxPoke => given.n0 < RING as u64,
         Command::TxToken => given.n0 < SLOTS as u64,

@@ -10,6 +10,7 @@ use forms::Said;
 use reading::Reading;
 use reading::TEXT;
 use script::NUMBERS;
+use script::OUT;
 use script::RING;
 use script::SLOTS;
 
@@ -76,6 +77,7 @@ fn step(
     numbers: &mut [u64; NUMBERS],
     rx_ring: &mut [u64; RING],
     rx_list: &mut [u64; SLOTS],
+    burst_list: &mut [u64; OUT],
     tx_ring: &mut [u64; RING],
     tokens: &mut [u64; SLOTS],
     counts: &mut [u16; SLOTS],
@@ -90,6 +92,7 @@ fn step(
         numbers,
         rx_ring,
         rx_list,
+        burst_list,
         tx_ring,
         tokens,
         counts,
@@ -104,6 +107,7 @@ fn run(
     numbers: &mut [u64; NUMBERS],
     rx_ring: &mut [u64; RING],
     rx_list: &mut [u64; SLOTS],
+    burst_list: &mut [u64; OUT],
     tx_ring: &mut [u64; RING],
     tokens: &mut [u64; SLOTS],
     counts: &mut [u16; SLOTS],
@@ -118,6 +122,7 @@ fn run(
             numbers,
             rx_ring,
             rx_list,
+            burst_list,
             tx_ring,
             tokens,
             counts,
@@ -133,6 +138,7 @@ fn main() {
     let mut numbers = [0u64; NUMBERS];
     let mut rx_ring = [0u64; RING];
     let mut rx_list = [0u64; SLOTS];
+    let mut burst_list = [0u64; OUT];
     let mut tx_ring = [0u64; RING];
     let mut tokens = [0u64; SLOTS];
     let mut counts = [0u16; SLOTS];
@@ -142,6 +148,7 @@ fn main() {
         &mut numbers,
         &mut rx_ring,
         &mut rx_list,
+        &mut burst_list,
         &mut tx_ring,
         &mut tokens,
         &mut counts,

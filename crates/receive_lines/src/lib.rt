@@ -1,15 +1,11 @@
-// The lines of a script that are for the receive queue: its record, and how much of its memory is lent. A part of the program `probe`:
-// what it prints is compared.
+// The lines of a script that are for the receive queue and take no packet: its record, how much of its memory is lent, and posts. A part
+// of the program `probe`: what it prints is compared.
 use command::Command;
-use family::family_number;
-use receive::Packet;
 use receive::Posted;
 use receive::RxQueue;
-use receive::Taken;
 use ring::Asked;
 use ring::Queue;
 use script::Given;
-use script::LONGEST;
 use script::RING;
 use script::Row;
 use script::SLOTS;
@@ -20,9 +16,9 @@ use script::row_of;
 use sum::sum_of;
 
 pub struct Rx {
-    queue: RxQueue,
-    ring: usize,
-    list: usize,
+    pub queue: RxQueue,
+    pub ring: usize,
+    pub list: usize,
 }
 
 // What a line leaves: the queue, and the numbers of its answer.
@@ -62,7 +58,7 @@ fn handed(given: Given) -> Rx {
 }
 
 // The bench with another record.
-fn with(rx: Rx, queue: RxQueue) -> Rx {
+pub fn with(rx: Rx, queue: RxQueue) -> Rx {
     Rx {
         queue,
         ring: rx.ring,
@@ -127,75 +123,6 @@ fn post(rx: Rx, address: u64, ring: &mut [u64], list: &mut [u64]) -> Received {
     posted(rx, queue.post(&mut ring[..r], &mut list[..l], address))
 }
 
-fn wide(n: usize) -> u64 {
-    n as u64
-}
-
-fn from_byte(n: u8) -> u64 {
-    n as u64
-}
-
-// The row of a take: the packet's slots, then the fields of the last one.
-fn take_row(answer: u8, queue: RxQueue, packet: Packet) -> [u64; LONGEST] {
-    let last = packet.last;
-    let a = packet.addresses;
-    let l = packet.lengths;
-    let family = last.family;
-    [
-        answer as u64,
-        queue.shared.head as u64,
-        queue.shared.posted as u64,
-        packet.count as u64,
-        packet.total as u64,
-        a[0],
-        wide(l[0]),
-        a[1],
-        wide(l[1]),
-        a[2],
-        wide(l[2]),
-        a[3],
-        wide(l[3]),
-        a[4],
-        wide(l[4]),
-        last.tag as u64,
-        last.hash as u64,
-        last.dd as u64,
-        last.eop as u64,
-        last.l2tag1p as u64,
-        last.l3l4p as u64,
-        last.crcp as u64,
-        from_byte(last.umbcast),
-        from_byte(last.fltstat),
-        last.lpbk as u64,
-        last.ipv6exadd as u64,
-        last.int_udp_0 as u64,
-        last.ipe as u64,
-        last.l4e as u64,
-        last.oversize as u64,
-        from_byte(last.ptype),
-        family_number(family),
-    ]
-}
-
-fn taken(rx: Rx, taken: Taken) -> Received {
-    let queue = taken.queue;
-    let packet = taken.packet;
-    Received {
-        rx: with(rx, queue),
-        row: Row {
-            values: take_row(taken.answer, queue, packet),
-            count: LONGEST,
-        },
-    }
-}
-
-fn take(rx: Rx, ring: &[u64], list: &[u64]) -> Received {
-    let queue = rx.queue;
-    let r = lent(ring, rx.ring);
-    let l = lent(list, rx.list);
-    taken(rx, queue.take(&ring[..r], &list[..l]))
-}
-
 fn asked(rx: Rx, asked: Asked) -> Received {
     Received {
         rx,
@@ -225,21 +152,6 @@ fn record_line(command: Command, given: Given, rx: Rx) -> Received {
     }
 }
 
-// The lines that read the memory.
-fn reading_line(
-    command: Command,
-    given: Given,
-    rx: Rx,
-    ring: &[u64; RING],
-    list: &[u64; SLOTS],
-) -> Received {
-    match command {
-        Command::Take => take(rx, ring, list),
-        Command::RxSum => sums(rx, ring, list),
-        _ => record_line(command, given, rx),
-    }
-}
-
 // Memory that a line writes.
 fn write(command: Command, given: Given, ring: &mut [u64; RING], list: &mut [u64; SLOTS]) {
     let i = given.n0 as usize;
@@ -251,7 +163,7 @@ fn write(command: Command, given: Given, ring: &mut [u64; RING], list: &mut [u64
     }
 }
 
-// The commands of the receive queue; any other leaves all as it is.
+// The commands of the receive queue that take no packet; any other leaves all as it is.
 pub fn line(
     command: Command,
     given: Given,
@@ -262,6 +174,7 @@ pub fn line(
     write(command, given, ring, list);
     match command {
         Command::Post => post(rx, given.n0, ring, list),
-        _ => reading_line(command, given, rx, ring, list),
+        Command::RxSum => sums(rx, ring, list),
+        _ => record_line(command, given, rx),
     }
 }

@@ -7,6 +7,9 @@ pub const SLOTS: usize = 8192;
 
 pub const RING: usize = 2 * SLOTS;
 
+// The burst's list, in numbers: more than a burst wants, so that a wrong length can be lent.
+pub const OUT: usize = 128;
+
 // How many numbers of a send stand before its addresses.
 pub const GIVEN: usize = 13;
 

@@ -46,62 +46,70 @@ returns-6 c = named (c .before) (bytesOf "take") refl (lit≤ tt) (c .match .key
 
 returns-7 : tie.Need-returns-7
 unfolding commandOf
-returns-7 c = named (c .before) (bytesOf "rxtail") refl (lit≤ tt) (c .match .keys7)
+returns-7 c = named (c .before) (bytesOf "out") refl (lit≤ tt) (c .match .keys7)
 
 returns-8 : tie.Need-returns-8
 unfolding commandOf
-returns-8 c = named (c .before) (bytesOf "rxreg") refl (lit≤ tt) (c .match .keys8)
+returns-8 c = named (c .before) (bytesOf "burst") refl (lit≤ tt) (c .match .keys8)
 
 returns-9 : tie.Need-returns-9
 unfolding commandOf
-returns-9 c = named (c .before) (bytesOf "rxsum") refl (lit≤ tt) (c .match .keys9)
+returns-9 c = named (c .before) (bytesOf "rxtail") refl (lit≤ tt) (c .match .keys9)
 
 returns-10 : tie.Need-returns-10
 unfolding commandOf
-returns-10 c = named (c .before) (bytesOf "tx") refl (lit≤ tt) (c .match .keys10)
+returns-10 c = named (c .before) (bytesOf "rxreg") refl (lit≤ tt) (c .match .keys10)
 
 returns-11 : tie.Need-returns-11
 unfolding commandOf
-returns-11 c = named (c .before) (bytesOf "txset") refl (lit≤ tt) (c .match .keys11)
+returns-11 c = named (c .before) (bytesOf "rxsum") refl (lit≤ tt) (c .match .keys11)
 
 returns-12 : tie.Need-returns-12
 unfolding commandOf
-returns-12 c = named (c .before) (bytesOf "txpoke") refl (lit≤ tt) (c .match .keys12)
+returns-12 c = named (c .before) (bytesOf "tx") refl (lit≤ tt) (c .match .keys12)
 
 returns-13 : tie.Need-returns-13
 unfolding commandOf
-returns-13 c = named (c .before) (bytesOf "txtoken") refl (lit≤ tt) (c .match .keys13)
+returns-13 c = named (c .before) (bytesOf "txset") refl (lit≤ tt) (c .match .keys13)
 
 returns-14 : tie.Need-returns-14
 unfolding commandOf
-returns-14 c = named (c .before) (bytesOf "txcount") refl (lit≤ tt) (c .match .keys14)
+returns-14 c = named (c .before) (bytesOf "txpoke") refl (lit≤ tt) (c .match .keys14)
 
 returns-15 : tie.Need-returns-15
 unfolding commandOf
-returns-15 c = named (c .before) (bytesOf "send") refl (lit≤ tt) (c .match .keys15)
+returns-15 c = named (c .before) (bytesOf "txtoken") refl (lit≤ tt) (c .match .keys15)
 
 returns-16 : tie.Need-returns-16
 unfolding commandOf
-returns-16 c = named (c .before) (bytesOf "reclaim") refl (lit≤ tt) (c .match .keys16)
+returns-16 c = named (c .before) (bytesOf "txcount") refl (lit≤ tt) (c .match .keys16)
 
 returns-17 : tie.Need-returns-17
 unfolding commandOf
-returns-17 c = named (c .before) (bytesOf "txtail") refl (lit≤ tt) (c .match .keys17)
+returns-17 c = named (c .before) (bytesOf "send") refl (lit≤ tt) (c .match .keys17)
 
 returns-18 : tie.Need-returns-18
 unfolding commandOf
-returns-18 c = named (c .before) (bytesOf "txreg") refl (lit≤ tt) (c .match .keys18)
+returns-18 c = named (c .before) (bytesOf "reclaim") refl (lit≤ tt) (c .match .keys18)
 
 returns-19 : tie.Need-returns-19
 unfolding commandOf
-returns-19 c = named (c .before) (bytesOf "txsum") refl (lit≤ tt) (c .match .keys19)
+returns-19 c = named (c .before) (bytesOf "txtail") refl (lit≤ tt) (c .match .keys19)
 
 returns-20 : tie.Need-returns-20
 unfolding commandOf
-returns-20 c = named (c .before) (bytesOf "int") refl (lit≤ tt) (c .match .keys20)
+returns-20 c = named (c .before) (bytesOf "txreg") refl (lit≤ tt) (c .match .keys20)
 
 returns-21 : tie.Need-returns-21
-returns-21 c = sym (unknown (c .before .before .before .args .word .now) (rw (c .before .key-of .ensures) at (c .match .rest)))
+unfolding commandOf
+returns-21 c = named (c .before) (bytesOf "txsum") refl (lit≤ tt) (c .match .keys21)
+
+returns-22 : tie.Need-returns-22
+unfolding commandOf
+returns-22 c = named (c .before) (bytesOf "int") refl (lit≤ tt) (c .match .keys22)
+
+returns-23 : tie.Need-returns-23
+returns-23 c = sym (unknown (c .before .before .before .args .word .now) (rw (c .before .key-of .ensures) at (c .match .rest)))
 
 pub command-of-spec : {M : Type 1} → statement M
 command-of-spec =
@@ -128,4 +136,6 @@ command-of-spec =
     returns-18
     returns-19
     returns-20
-    returns-21)
+    returns-21
+    returns-22
+    returns-23)

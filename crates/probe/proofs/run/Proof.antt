@@ -5,11 +5,11 @@ use Rattle.probe.proofs.run.Statement.{statement}
 use Rattle.probe.proofs.run.Tie as tie
 
 abbrev Inv-loop : tie.InvT-loop
-Inv-loop text₀ numbers₀ rx-ring₀ rx-list₀ tx-ring₀ tokens₀ counts₀ out₀ state₀ steps₀ text numbers rx-ring rx-list tx-ring tokens counts out state steps =
+Inv-loop text₀ numbers₀ rx-ring₀ rx-list₀ burst-list₀ tx-ring₀ tokens₀ counts₀ out₀ state₀ steps₀ text numbers rx-ring rx-list burst-list tx-ring tokens counts out state steps =
     0 ≤ steps
 
 abbrev μ-loop : tie.MeasureT-loop
-μ-loop text₀ numbers₀ rx-ring₀ rx-list₀ tx-ring₀ tokens₀ counts₀ out₀ state₀ steps₀ text numbers rx-ring rx-list tx-ring tokens counts out state steps =
+μ-loop text₀ numbers₀ rx-ring₀ rx-list₀ burst-list₀ tx-ring₀ tokens₀ counts₀ out₀ state₀ steps₀ text numbers rx-ring rx-list burst-list tx-ring tokens counts out state steps =
     steps
 
 start-requires : tie.Need-start-requires Inv-loop μ-loop
