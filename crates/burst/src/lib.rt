@@ -13,14 +13,8 @@ ghost use Rattle.burst.specs.Polls.{foundBy};
 ghost use Rattle.burst.specs.Steps.{Reads, Polls, FoundAs, PolledAs};
 use ring::Queue;
 
-// A burst is of 1 to 32 packets.
-pub const PACKETS_MOST: usize = 32;
-
 // What tells a packet: its first slot, its slot count, its total length.
-const PACKET_NUMBERS: usize = 3;
-
-// The numbers of the lent list.
-pub const NUMBERS: usize = PACKET_NUMBERS * PACKETS_MOST;
+pub const PACKET_NUMBERS: usize = 3;
 
 // What a walk finds: the answer, the record's shared part after it, of a packet the slot count and the total length, and the slots examined.
 pub struct Found {

@@ -2,7 +2,7 @@
 -- Assumes nothing.
 use Prim.Native.Nat.{ℕ, _*_, _+_, _^_}
 use mathlib.Core.Path.{_≡_}
-use mathlib.Core.List.{List, _∷_, _++_}
+use mathlib.Core.List.{List, _∷_}
 use lib.ListN.{set, replicate}
 use Rattle.receive.specs.declared.Burst.{Burst}
 use Rattle.receive.specs.Queue as rx

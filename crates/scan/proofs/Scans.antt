@@ -1,9 +1,9 @@
 -- What a scan sees: whole, exactly the first of the slots that make a packet as the device's rules have it; and what is told of each of them.
 -- Assumes nothing.
-use Prim.Native.Nat.{ℕ, suc, _+_, _≤_, _<_}
-use mathlib.Core.Path.{_≡_, refl, ap, _∙_}
+use Prim.Native.Nat.{ℕ, suc, _+_, _-_, _≤_, _<_}
+use mathlib.Core.Path.{_≡_, refl, sym, ap, _∙_}
 use mathlib.Core.Logic.{_⊎_, inl, inr}
-use mathlib.Core.Bool.{Bool, true, false, not, cond}
+use mathlib.Core.Bool.{Bool, true, false, not, _&&_, cond, true≢false}
 use mathlib.Core.List.{List, [], _∷_, _++_, map}
 use native.Mathlib.Omega.{arith}
 use borrow.Author.Tests.{not-true}
@@ -19,7 +19,7 @@ use Rattle.scan.specs.Slots.{Slot, slotIn, postedSlots}
 use Rattle.scan.specs.Scan.{packetSlots, lengthOk, endOk, allowed, writable, Complete, ends, goes, goesOn, examined, Look, refuse, whole, andThen, scan, slotChecks}
 use Rattle.scan.specs.Told.{padded}
 use Rattle.scan.proofs.Packets.{padded-at, map-at}
-use Rattle.scan.proofs.Walk.{allowed-last, allowed-on, not-fifth}
+use Rattle.scan.proofs.Walk.{not-done, not-allowed, allowed-last, allowed-on, not-fifth}
 
 module _ (buffer k : ℕ) (s : Slot) where
   parts : writable buffer k (s .words) ≡ true → (dd (s .words) ≡ true) × (allowed buffer k (s .words) ≡ true)
@@ -107,6 +107,15 @@ goes-within buffer k s g =
     let b = both (writable buffer k (s .words)) (not (eop (s .words))) g in
     not-fifth buffer k s (parts buffer k s (b .0) .1) (not-true _ (b .1))
 
+-- and what it sees then is the slot before what it sees behind it
+goes-alike : (buffer k : ℕ) (s : Slot) (r r′ : List Slot) → goesOn buffer k (s .words) ≡ true → scan buffer (suc k) r ≡ scan buffer (suc k) r′
+    → scan buffer k (s ∷ r) ≡ scan buffer k (s ∷ r′)
+unfolding goesOn
+goes-alike buffer k s r r′ g e =
+    let b = both (writable buffer k (s .words)) (not (eop (s .words))) g in
+    let p = parts buffer k s (b .0) in
+    allowed-on buffer k s r (p .0) (p .1) (not-true _ (b .1)) ∙ rw e (sym (allowed-on buffer k s r′ (p .0) (p .1) (not-true _ (b .1))))
+
 module _ (buffer : ℕ) where
   -- none past the posted
   pub reads-posted : (k : ℕ) (slots : List Slot) → examined buffer k slots ≤ length slots
@@ -139,6 +148,34 @@ module _ (buffer : ℕ) where
   reads-whole k slots p h =
       let b = seen-is buffer k slots p h in
       ap (examined buffer k) (b .are) ∙ reads-packet k p (b .rest) (b .complete)
+
+-- what stands behind a slot that it does not go on behind makes no difference
+stops-alike : (buffer k : ℕ) (s : Slot) (r r′ : List Slot) → goesOn buffer k (s .words) ≡ false → scan buffer k (s ∷ r) ≡ scan buffer k (s ∷ r′)
+unfolding goesOn writable
+stops-alike buffer k s r r′ g = go (dd (s .words)) (allowed buffer k (s .words)) (eop (s .words)) refl refl refl g
+  where
+    go : (d a e : Bool) → dd (s .words) ≡ d → allowed buffer k (s .words) ≡ a → eop (s .words) ≡ e → (d && a) && not e ≡ false → scan buffer k (s ∷ r) ≡ scan buffer k (s ∷ r′)
+    go false a e hd ha he g = not-done buffer k s r hd ∙ sym (not-done buffer k s r′ hd)
+    go true false e hd ha he g = not-allowed buffer k s r hd ha ∙ sym (not-allowed buffer k s r′ hd ha)
+    go true true true hd ha he g = allowed-last buffer k s r hd ha he ∙ sym (allowed-last buffer k s r′ hd ha he)
+    go true true false hd ha he g = absurd (true≢false g)
+
+none-left : (xs : List Slot) → length xs ≡ 0 → xs ≡ []
+none-left [] e = refl
+none-left (x ∷ xs) e = absurd (omega arith)
+
+-- so the slots that are not examined make none, as long as they are as many
+pub unread : (buffer k : ℕ) (slots others : List Slot) → length others ≡ length slots - examined buffer k slots
+    → scan buffer k (take (examined buffer k slots) slots ++ others) ≡ scan buffer k slots
+unfolding examined
+unread buffer k [] others h = rw (none-left others h)
+unread buffer k (s ∷ rest) others h = go (goesOn buffer k (s .words)) refl h (λ l. unread buffer (suc k) rest others l)
+  where
+    go : (b : Bool) → goesOn buffer k (s .words) ≡ b → length others ≡ suc (length rest) - suc (cond b (examined buffer (suc k) rest) 0)
+        → (length others ≡ length rest - examined buffer (suc k) rest → scan buffer (suc k) (take (examined buffer (suc k) rest) rest ++ others) ≡ scan buffer (suc k) rest)
+        → scan buffer k (take (suc (cond b (examined buffer (suc k) rest) 0)) (s ∷ rest) ++ others) ≡ scan buffer k (s ∷ rest)
+    go true g l r = goes-alike buffer k s _ rest g (r (omega arith))
+    go false g l r = stops-alike buffer k s others rest g
 
 -- the number of what a scan sees
 abbrev pub numberOf : Look → ℕ
