@@ -14,7 +14,8 @@ use Rattle.receive.specs.declared.Taken.{Taken}
 use Rattle.receive.specs.Take.{packetOf, takeOf}
 use Rattle.receive.specs.Burst.{Made, takesFrom, carried, handing, told, burstOf, outAfter}
 use Rattle.receive.proofs.Takes.{hands-up}
-use Rattle.receive.proofs.Bursts.{t, by-takes, of-made, four-again}
+use Rattle.receive.proofs.Turns.{takenOn, by-takes}
+use Rattle.receive.proofs.Bursts.{of-made, four-again}
 use Rattle.history.specs.World.{World, poll, Reply, posted, taken, takeAt, after, reply, end, replies, AllAllowed, Start}
 use Rattle.history.specs.History.{ifDone, packetsIn, handedUp}
 use Rattle.history.proofs.Late.{end-append, replies-append, allowed-append}
@@ -74,8 +75,8 @@ answered (m ∷ ms) = go (eqb (m .taken .answer) 0) (answered ms)
 
 module _ (w : World) where
   -- a take's packet is made of the slots from head on, so many as it counts
-  slots-are : (q : RxQueue) → q .shared .size ≡ w .queue .shared .size → t q (w .ring) (w .list) .answer ≡ 0
-      → packetAt w (q .shared .head) (t q (w .ring) (w .list) .packet .count) ≡ t q (w .ring) (w .list) .packet
+  slots-are : (q : RxQueue) → q .shared .size ≡ w .queue .shared .size → takenOn q (w .ring) (w .list) .answer ≡ 0
+      → packetAt w (q .shared .head) (takenOn q (w .ring) (w .list) .packet .count) ≡ takenOn q (w .ring) (w .list) .packet
   unfolding postedSlots
   slots-are q e z =
       let u = hands-up q (w .ring) (w .list) z in
@@ -83,7 +84,7 @@ module _ (w : World) where
       (ap packetOf (sym (run-take (slotIn (w .ring) (w .list)) (q .shared .size) (q .shared .head) _ (q .shared .posted) (u .within)))
       ∙ sym (ap (λ (x : Taken). x .packet) (u .is)))
 
-  size-same : (q : RxQueue) → t q (w .ring) (w .list) .answer ≡ 0 → t q (w .ring) (w .list) .queue .shared .size ≡ q .shared .size
+  size-same : (q : RxQueue) → takenOn q (w .ring) (w .list) .answer ≡ 0 → takenOn q (w .ring) (w .list) .queue .shared .size ≡ q .shared .size
   size-same q z = ap (λ (x : Taken). x .queue .shared .size) (hands-up q (w .ring) (w .list) z .is)
 
   takes-tell : (n : ℕ) (q : RxQueue) → q .shared .size ≡ w .queue .shared .size → (rest : List ℕ)

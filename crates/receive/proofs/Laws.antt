@@ -40,7 +40,8 @@ pub tail-value-fits : (q : RxQueue) → tailValueOf q .value < 2 ^ tailBits
 tail-value-fits q = asked-below (recordOk q) _ _ (omega arith) (λ e. tail-fits (q .shared) (kept q e))
 
 module _ (q : RxQueue) (ringLength listLength : ℕ) (e : lentOk q ringLength listLength ≡ true) where
-  apart : (recordOk q ≡ true) × (eqb ringLength (2 * q .shared .size) && eqb listLength (q .shared .size) ≡ true)
+  -- the record, and the lengths
+  pub apart : (recordOk q ≡ true) × (eqb ringLength (2 * q .shared .size) && eqb listLength (q .shared .size) ≡ true)
   unfolding lentOk
   apart = both (recordOk q) (eqb ringLength (2 * q .shared .size) && eqb listLength (q .shared .size)) e
 
