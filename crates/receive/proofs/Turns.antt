@@ -28,12 +28,13 @@ use Rattle.receive.proofs.Keeps.{advanced-ok, take-keeps}
 
 -- ---- one take
 
--- what a walk finds, of what a take gives
-record Same (f : Found) (t : Taken) : Type 0 where
+-- what a walk finds is what a take gives, and the slots that it examines
+record Same (f : Found) (t : Taken) (e : ℕ) : Type 0 where
   answer-same : f .answer ≡ t .answer
   queue-same : f .queue ≡ t .queue .shared
   count-same : f .count ≡ t .packet .count
   total-same : f .total ≡ t .packet .total
+  examined-same : f .examined ≡ e
 
 module _ (q : RxQueue) (ring list : List ℕ) where
   abbrev pub takenOn : Taken
@@ -59,21 +60,13 @@ module _ (q : RxQueue) (ring list : List ℕ) where
     unfolding look
     as-look = rw ok
 
-    same : Same (foundIn (q .buffer) ring list (q .shared)) (takeOf q ring list)
+    same : Same (foundIn (q .buffer) ring list (q .shared)) takenOn (examinedBy ring list madeOn)
     unfolding takeOf takeBy packetOf foundBy sum
     same = rw as-look (go (scan (q .buffer) 0 (postedSlots (q .shared) ring list)) (examined (q .buffer) 0 (postedSlots (q .shared) ring list)))
       where
-        go : (l : Look) (e : ℕ) → Same (foundBy l (q .shared) e) (takeBy l q)
-        go (refuse n) e = record { answer-same = refl; queue-same = refl; count-same = refl; total-same = refl }
-        go (whole p) e = record { answer-same = refl; queue-same = refl; count-same = refl; total-same = refl }
-
-    examined-same : foundIn (q .buffer) ring list (q .shared) .examined ≡ examined (q .buffer) 0 (postedSlots (q .shared) ring list)
-    unfolding foundBy
-    examined-same = go (scan (q .buffer) 0 (postedSlots (q .shared) ring list))
-      where
-        go : (l : Look) → foundBy l (q .shared) (examined (q .buffer) 0 (postedSlots (q .shared) ring list)) .examined ≡ examined (q .buffer) 0 (postedSlots (q .shared) ring list)
-        go (refuse n) = refl
-        go (whole p) = refl
+        go : (l : Look) (e : ℕ) → Same (foundBy l (q .shared) e) (takeBy l q) e
+        go (refuse n) e = record { answer-same = refl; queue-same = refl; count-same = refl; total-same = refl; examined-same = refl }
+        go (whole p) e = record { answer-same = refl; queue-same = refl; count-same = refl; total-same = refl; examined-same = refl }
 
     -- one that refuses answers 4 or 5
     answers-with : takenOn .answer ≢ 0 → (takenOn .answer ≡ 4) ⊎ (takenOn .answer ≡ 5)
@@ -99,7 +92,7 @@ module _ (q : RxQueue) (ring list : List ℕ) where
         (ahead 1 (examinedBy ring list madeOn) (q .shared .head ∷ takenOn .packet .count ∷ takenOn .packet .total ∷ []) (polls (q .buffer) ring list n (takenOn .queue .shared)))
         (stop (takenOn .answer) (takenOn .queue .shared) (examinedBy ring list madeOn))
     unfolding polls
-    opened n = rw (same .answer-same, same .queue-same, same .count-same, same .total-same, examined-same)
+    opened n = rw (same .answer-same, same .queue-same, same .count-same, same .total-same, same .examined-same)
 
 -- ---- all takes
 
