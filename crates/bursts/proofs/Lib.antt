@@ -1,1 +1,2 @@
 pub mod Bursts
+pub mod Examples
