@@ -14,6 +14,10 @@ const RECEIVE: u64 = 1;
 
 const SEND: u64 = 2;
 
+const BURST: u64 = 4;
+
+const TAKES: u64 = 5;
+
 // A line as far as it is read.
 struct Line {
     values: [u64; NUMBERS],
@@ -62,6 +66,8 @@ fn answer(line: Line) -> u64 {
     match values[0] {
         RECEIVE => received(values),
         SEND => sent(values),
+        BURST => burst_rounds::bursts(values[3], values[4], values[1] == 1, values[2]),
+        TAKES => burst_rounds::takes(values[3], values[4], values[1] == 1, values[2]),
         _ => interrupting::rounds(values[1] == 1, values[2]),
     }
 }
