@@ -33,6 +33,18 @@ fn fill(run: Run, ring: &mut [u64], list: &mut [u64], i: u64, word1: u64, idle: 
     }
 }
 
+// A take, and the sum over it. Receiving and polling have one each: a shared one would be called and not inlined, and cost a round 46 instructions more.
+fn hand_up(run: Run, ring: &[u64], list: &[u64], seen: Taken, idle: bool) -> Run {
+    let before = run.queue;
+    let taken = receive_run::take(before, ring, list, seen, idle);
+    let queue = taken.queue;
+    Run {
+        queue,
+        sum: packet_sum::taken(run.sum, taken),
+        at: run.at,
+    }
+}
+
 // The packet that an idle run sums up, one that no compiler knows.
 fn one_packet(run: Run, ring: &mut [u64], list: &mut [u64], rounds: u64) -> Taken {
     let filled = fill(run, ring, list, rounds, device::last_word(rounds), false);
@@ -70,7 +82,7 @@ fn one_round(
 ) -> Run {
     let middle = fill_middle(begun, ring, list, slots, i, idle);
     let full = fill(middle, ring, list, i, device::last_word(i), idle);
-    receive_run::hand_up(full, ring, list, seen, idle)
+    hand_up(full, ring, list, seen, idle)
 }
 
 fn repeat(

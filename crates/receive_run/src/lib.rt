@@ -1,4 +1,4 @@
-// What rounds of receiving share: how far a run has come, and a packet handed up. A part of the program `rounds`: what it prints is compared.
+// What rounds of receiving share: how far a run has come, and a take of it. A part of the program `rounds`: what it prints is compared.
 use measure::checksum;
 use receive::RxQueue;
 use receive::Taken;
@@ -32,18 +32,7 @@ pub fn end(run: Run, ring: &[u64]) -> u64 {
     checksum::lent(b, ring)
 }
 
-fn take(queue: RxQueue, ring: &[u64], list: &[u64], seen: Taken, idle: bool) -> Taken {
+// A take; in an idle run a packet that was seen before.
+pub fn take(queue: RxQueue, ring: &[u64], list: &[u64], seen: Taken, idle: bool) -> Taken {
     if idle { seen } else { queue.take(ring, list) }
-}
-
-// A take and the sum over it; an idle run sums up a packet that was seen before.
-pub fn hand_up(run: Run, ring: &[u64], list: &[u64], seen: Taken, idle: bool) -> Run {
-    let before = run.queue;
-    let taken = take(before, ring, list, seen, idle);
-    let queue = taken.queue;
-    Run {
-        queue,
-        sum: packet_sum::taken(run.sum, taken),
-        at: run.at,
-    }
 }

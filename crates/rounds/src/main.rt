@@ -1,6 +1,6 @@
 // Runs an operation of the driver core many times over rings held in memory, so that what it costs can be counted. Each line of
 // standard input asks for one run by seven numbers: the operation, 1 for an idle run (the same loop without the core), the
-// rounds, the ring's size, the pieces (or slots), the bytes behind the first piece, and the MSS (0: a plain send). For each line
+// rounds, the ring's size, the pieces (or slots, or packets), the bytes behind the first piece, and the MSS (0: a plain send). For each line
 // comes out one number that depends on every result.
 mod interrupting;
 
@@ -56,6 +56,14 @@ fn received(values: [u64; NUMBERS]) -> u64 {
     receive_rounds::rounds(values[3], values[4], values[1] == 1, values[2])
 }
 
+fn polled(values: [u64; NUMBERS]) -> u64 {
+    burst_rounds::bursts(values[3], values[4], values[1] == 1, values[2])
+}
+
+fn taken(values: [u64; NUMBERS]) -> u64 {
+    burst_rounds::takes(values[3], values[4], values[1] == 1, values[2])
+}
+
 fn sent(values: [u64; NUMBERS]) -> u64 {
     let asked = send_rounds::wanted(values[5], values[6], values[1] == 1, values[2]);
     send_rounds::rounds(values[3], values[4], asked)
@@ -66,8 +74,8 @@ fn answer(line: Line) -> u64 {
     match values[0] {
         RECEIVE => received(values),
         SEND => sent(values),
-        BURST => burst_rounds::bursts(values[3], values[4], values[1] == 1, values[2]),
-        TAKES => burst_rounds::takes(values[3], values[4], values[1] == 1, values[2]),
+        BURST => polled(values),
+        TAKES => taken(values),
         _ => interrupting::rounds(values[1] == 1, values[2]),
     }
 }

@@ -18,8 +18,8 @@ loop-holds c = search needs
 with-packets-requires : tie.Need-with-packets-requires Inv-loop μ-loop
 with-packets-requires c κs = tt
 
-hand-up-requires : tie.Need-hand-up-requires Inv-loop μ-loop
-hand-up-requires c κs = tt
+hand-up-burst-requires : tie.Need-hand-up-burst-requires Inv-loop μ-loop
+hand-up-burst-requires c κs = tt
 
 add-i : tie.Need-add-i Inv-loop μ-loop
 add-i c = search needs
@@ -44,7 +44,7 @@ repeat-bursts-spec =
     μ-loop
     loop-holds
     with-packets-requires
-    hand-up-requires
+    hand-up-burst-requires
     add-i
     loop-less
     loop-again
