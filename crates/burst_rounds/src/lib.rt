@@ -44,6 +44,7 @@ fn with_packets(run: Run, ring: &mut [u64], packets: usize, i: u64) -> Run {
     }
 }
 
+// A burst; in an idle run the numbers of one that takes every packet.
 fn burst(
     queue: RxQueue,
     ring: &[u64],
@@ -64,6 +65,7 @@ fn burst(
     }
 }
 
+// The whole list is summed up, whatever of it the burst wrote.
 fn summed(sum: u64, polled: Burst, out: &[u64; NUMBERS]) -> u64 {
     let sum = checksum::byte(sum, polled.answer);
     let sum = checksum::number(checksum::number(sum, polled.packets), polled.examined);

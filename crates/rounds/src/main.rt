@@ -1,7 +1,7 @@
 // Runs an operation of the driver core many times over rings held in memory, so that what it costs can be counted. Each line of
 // standard input asks for one run by seven numbers: the operation, 1 for an idle run (the same loop without the core), the
-// rounds, the ring's size, the pieces (or slots, or packets), the bytes behind the first piece, and the MSS (0: a plain send). For each line
-// comes out one number that depends on every result.
+// rounds, the ring's size, the pieces (or slots, or packets), the bytes behind the first piece, and the MSS (0: a plain send). For
+// each line comes out one number that depends on every result.
 mod interrupting;
 
 const NUMBERS: usize = 7;
@@ -14,6 +14,7 @@ const RECEIVE: u64 = 1;
 
 const SEND: u64 = 2;
 
+// Many packets of one slot a round, by a burst or by as many takes.
 const BURST: u64 = 4;
 
 const TAKES: u64 = 5;
