@@ -53,32 +53,28 @@ fn with_byte(line: Line, byte: u8) -> Line {
     Line { values, at }
 }
 
-fn received(values: [u64; NUMBERS]) -> u64 {
-    receive_rounds::rounds(values[3], values[4], values[1] == 1, values[2])
-}
-
-fn polled(values: [u64; NUMBERS]) -> u64 {
-    burst_rounds::bursts(values[3], values[4], values[1] == 1, values[2])
-}
-
-fn taken(values: [u64; NUMBERS]) -> u64 {
-    burst_rounds::takes(values[3], values[4], values[1] == 1, values[2])
-}
-
-fn sent(values: [u64; NUMBERS]) -> u64 {
-    let asked = send_rounds::wanted(values[5], values[6], values[1] == 1, values[2]);
-    send_rounds::rounds(values[3], values[4], asked)
+// One run: what a line asks for, number by number.
+fn run(
+    operation: u64,
+    idle: bool,
+    rounds: u64,
+    size: u64,
+    pieces: u64,
+    behind: u64,
+    mss: u64,
+) -> u64 {
+    match operation {
+        RECEIVE => receive_rounds::rounds(size, pieces, idle, rounds),
+        SEND => send_rounds::rounds(size, pieces, send_rounds::wanted(behind, mss, idle, rounds)),
+        BURST => burst_rounds::bursts(size, pieces, idle, rounds),
+        TAKES => burst_rounds::takes(size, pieces, idle, rounds),
+        _ => interrupting::rounds(idle, rounds),
+    }
 }
 
 fn answer(line: Line) -> u64 {
-    let values = line.values;
-    match values[0] {
-        RECEIVE => received(values),
-        SEND => sent(values),
-        BURST => polled(values),
-        TAKES => taken(values),
-        _ => interrupting::rounds(values[1] == 1, values[2]),
-    }
+    let v = line.values;
+    run(v[0], v[1] == 1, v[2], v[3], v[4], v[5], v[6])
 }
 
 fn print(line: Line) {
