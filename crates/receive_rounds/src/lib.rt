@@ -6,58 +6,10 @@ use measure::within;
 use receive::Posted;
 use receive::RxQueue;
 use receive::Taken;
-
-const BUFFER: usize = 2048;
-
-// Word 1 of a write-back without its length: DD; in a last slot also EOP, L3L4P, FLTSTAT 3 and type 26.
-const MIDDLE: u64 = 0x1;
-
-const LAST: u64 = 0x68000300B;
-
-const LENGTH: u64 = 38;
+use receive_run::Run;
 
 fn address(i: u64) -> u64 {
     0x100000 | (i % 4096) << 11
-}
-
-fn first_word(i: u64) -> u64 {
-    i << 32 | 0x123
-}
-
-fn middle_word() -> u64 {
-    MIDDLE | 2048 << LENGTH
-}
-
-// A length from 64 to 1,087.
-fn last_word(i: u64) -> u64 {
-    LAST | (64 + i % 1024) << LENGTH
-}
-
-// The record and the sum as far as a run has come, and the device's place.
-struct Run {
-    queue: RxQueue,
-    sum: u64,
-    at: usize,
-}
-
-fn start(size: usize) -> Run {
-    let fresh = RxQueue::fresh(0, size, BUFFER);
-    let queue = fresh.queue;
-    Run {
-        queue,
-        sum: checksum::byte(0, fresh.answer),
-        at: 0,
-    }
-}
-
-fn end(run: Run, ring: &[u64]) -> u64 {
-    let q = run.queue;
-    let a = checksum::number(checksum::number(run.sum, q.shared.queue), q.shared.size);
-    let b = checksum::number(
-        checksum::number(checksum::number(a, q.shared.head), q.shared.posted),
-        q.buffer,
-    );
-    checksum::lent(b, ring)
 }
 
 fn post(queue: RxQueue, ring: &mut [u64], list: &mut [u64], i: u64, idle: bool) -> Posted {
@@ -68,15 +20,11 @@ fn post(queue: RxQueue, ring: &mut [u64], list: &mut [u64], i: u64, idle: bool) 
     }
 }
 
-fn take(queue: RxQueue, ring: &[u64], list: &[u64], seen: Taken, idle: bool) -> Taken {
-    if idle { seen } else { queue.take(ring, list) }
-}
-
 // One post, and the device's write-back.
 fn fill(run: Run, ring: &mut [u64], list: &mut [u64], i: u64, word1: u64, idle: bool) -> Run {
     let before = run.queue;
     let posted = post(before, ring, list, i, idle);
-    device::write_back(ring, run.at, first_word(i), word1);
+    device::write_back(ring, run.at, i, word1);
     let queue = posted.queue;
     Run {
         queue,
@@ -85,9 +33,10 @@ fn fill(run: Run, ring: &mut [u64], list: &mut [u64], i: u64, word1: u64, idle: 
     }
 }
 
+// A take, and the sum over it. Receiving and polling have one each: a shared one would be called and not inlined, and cost a round 46 instructions more.
 fn hand_up(run: Run, ring: &[u64], list: &[u64], seen: Taken, idle: bool) -> Run {
     let before = run.queue;
-    let taken = take(before, ring, list, seen, idle);
+    let taken = receive_run::take(before, ring, list, seen, idle);
     let queue = taken.queue;
     Run {
         queue,
@@ -98,7 +47,7 @@ fn hand_up(run: Run, ring: &[u64], list: &[u64], seen: Taken, idle: bool) -> Run
 
 // The packet that an idle run sums up, one that no compiler knows.
 fn one_packet(run: Run, ring: &mut [u64], list: &mut [u64], rounds: u64) -> Taken {
-    let filled = fill(run, ring, list, rounds, last_word(rounds), false);
+    let filled = fill(run, ring, list, rounds, device::last_word(rounds), false);
     let queue = filled.queue;
     queue.take(ring, list)
 }
@@ -115,7 +64,7 @@ fn fill_middle(
     let mut run = begun;
     let mut k = 1;
     while k < slots {
-        run = fill(run, ring, list, i, middle_word(), idle);
+        run = fill(run, ring, list, i, device::middle_word(), idle);
         k += 1;
     }
     run
@@ -132,7 +81,7 @@ fn one_round(
     idle: bool,
 ) -> Run {
     let middle = fill_middle(begun, ring, list, slots, i, idle);
-    let full = fill(middle, ring, list, i, last_word(i), idle);
+    let full = fill(middle, ring, list, i, device::last_word(i), idle);
     hand_up(full, ring, list, seen, idle)
 }
 
@@ -155,9 +104,9 @@ fn repeat(
 }
 
 fn answer(ring: &mut [u64], list: &mut [u64], slots: u64, idle: bool, rounds: u64) -> u64 {
-    let begun = start(list.len());
+    let begun = receive_run::start(list.len());
     let seen = one_packet(begun, ring, list, rounds);
-    end(repeat(begun, ring, list, seen, slots, idle, rounds), ring)
+    receive_run::end(repeat(begun, ring, list, seen, slots, idle, rounds), ring)
 }
 
 // So many rounds on a ring of so many slots, a packet a round, each of so many slots.

@@ -1,7 +1,7 @@
 // Runs an operation of the driver core many times over rings held in memory, so that what it costs can be counted. Each line of
 // standard input asks for one run by seven numbers: the operation, 1 for an idle run (the same loop without the core), the
-// rounds, the ring's size, the pieces (or slots), the bytes behind the first piece, and the MSS (0: a plain send). For each line
-// comes out one number that depends on every result.
+// rounds, the ring's size, the pieces (or slots, or packets), the bytes behind the first piece, and the MSS (0: a plain send). For
+// each line comes out one number that depends on every result.
 mod interrupting;
 
 const NUMBERS: usize = 7;
@@ -13,6 +13,11 @@ const LARGE: u64 = 100_000_000_000;
 const RECEIVE: u64 = 1;
 
 const SEND: u64 = 2;
+
+// Many packets of one slot a round, by a burst or by as many takes.
+const BURST: u64 = 4;
+
+const TAKES: u64 = 5;
 
 // A line as far as it is read.
 struct Line {
@@ -48,22 +53,28 @@ fn with_byte(line: Line, byte: u8) -> Line {
     Line { values, at }
 }
 
-fn received(values: [u64; NUMBERS]) -> u64 {
-    receive_rounds::rounds(values[3], values[4], values[1] == 1, values[2])
-}
-
-fn sent(values: [u64; NUMBERS]) -> u64 {
-    let asked = send_rounds::wanted(values[5], values[6], values[1] == 1, values[2]);
-    send_rounds::rounds(values[3], values[4], asked)
+// One run: what a line asks for, number by number.
+fn run(
+    operation: u64,
+    idle: bool,
+    rounds: u64,
+    size: u64,
+    pieces: u64,
+    behind: u64,
+    mss: u64,
+) -> u64 {
+    match operation {
+        RECEIVE => receive_rounds::rounds(size, pieces, idle, rounds),
+        SEND => send_rounds::rounds(size, pieces, send_rounds::wanted(behind, mss, idle, rounds)),
+        BURST => burst_rounds::bursts(size, pieces, idle, rounds),
+        TAKES => burst_rounds::takes(size, pieces, idle, rounds),
+        _ => interrupting::rounds(idle, rounds),
+    }
 }
 
 fn answer(line: Line) -> u64 {
-    let values = line.values;
-    match values[0] {
-        RECEIVE => received(values),
-        SEND => sent(values),
-        _ => interrupting::rounds(values[1] == 1, values[2]),
-    }
+    let v = line.values;
+    run(v[0], v[1] == 1, v[2], v[3], v[4], v[5], v[6])
 }
 
 fn print(line: Line) {
