@@ -1,9 +1,9 @@
 // Rounds of polling a ring that is full of packets of one slot: a burst a round, or as many takes. A part of the program `rounds`: what it prints is compared.
-use burst::NUMBERS;
 use measure::MOST_SLOTS;
 use measure::checksum;
 use measure::device;
 use measure::within;
+use receive::BURST_NUMBERS;
 use receive::Burst;
 use receive::RxQueue;
 use receive::Taken;
@@ -66,7 +66,7 @@ fn burst(
 }
 
 // The whole list is summed up, whatever of it the burst wrote.
-fn summed(sum: u64, polled: Burst, out: &[u64; NUMBERS]) -> u64 {
+fn summed(sum: u64, polled: Burst, out: &[u64; BURST_NUMBERS]) -> u64 {
     let sum = checksum::byte(sum, polled.answer);
     let sum = checksum::number(checksum::number(sum, polled.packets), polled.examined);
     checksum::lent(sum, out)
@@ -76,7 +76,7 @@ fn hand_up_burst(
     run: Run,
     ring: &[u64],
     list: &[u64],
-    out: &mut [u64; NUMBERS],
+    out: &mut [u64; BURST_NUMBERS],
     packets: usize,
     idle: bool,
 ) -> Run {
@@ -98,7 +98,7 @@ fn repeat_bursts(
     idle: bool,
     rounds: u64,
 ) -> Run {
-    let mut out = [0u64; NUMBERS];
+    let mut out = [0u64; BURST_NUMBERS];
     let mut run = begun;
     let mut i = 0;
     while i < rounds {

@@ -1,4 +1,5 @@
 // The receive queue of the driver core: fresh queues and the tail (queue), post, take, and burst, many packets in one poll (poll).
+use burst::PACKET_NUMBERS;
 use ring::Queue;
 use scan::PACKET_SLOTS;
 use writeback::WriteBack;
@@ -7,6 +8,12 @@ mod poll;
 mod post;
 mod queue;
 mod take;
+
+// A burst is of 1 to 32 packets.
+pub const BURST_PACKETS: usize = 32;
+
+// Its list has three numbers for each of them.
+pub const BURST_NUMBERS: usize = PACKET_NUMBERS * BURST_PACKETS;
 
 // What every queue's record has, and the size of a buffer.
 pub struct RxQueue {

@@ -1,15 +1,10 @@
 // Burst: many takes in one call, each told by three numbers.
 ghost use mathlib.Core.Path.{_≡_};
 ghost use Rattle.receive.specs.Burst.{refusalOf, BurstAs};
+use crate::BURST_NUMBERS;
+use crate::BURST_PACKETS;
 use crate::Burst;
 use crate::RxQueue;
-use burst::PACKET_NUMBERS;
-
-// A burst is of 1 to 32 packets.
-const PACKETS_MOST: usize = 32;
-
-// The numbers of its list.
-const NUMBERS: usize = PACKET_NUMBERS * PACKETS_MOST;
 
 impl RxQueue {
     // 1 or 10, in this order, or 0.
@@ -22,8 +17,8 @@ impl RxQueue {
     ) -> u8
         ensures { λ r. ⌜ r ≡ refusalOf self «ring_length» «list_length» «out_length» limit ⌝ }
     {
-        if self.lent_ok(ring_length, list_length) & (out_length == NUMBERS) {
-            if (1 <= limit) & (limit <= PACKETS_MOST) {
+        if self.lent_ok(ring_length, list_length) & (out_length == BURST_NUMBERS) {
+            if (1 <= limit) & (limit <= BURST_PACKETS) {
                 0
             } else {
                 10
