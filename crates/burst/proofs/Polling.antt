@@ -18,8 +18,8 @@ use Rattle.scan.specs.Slots.{postedSlots}
 use Rattle.scan.specs.Scan.{packetSlots, examined, Look, refuse, whole, scan}
 use Rattle.scan.proofs.Scans.{reads-few}
 use Rattle.burst.specs.declared.Found.{Found}
-use Rattle.burst.specs.Sizes.{packetNumbers}
-use Rattle.burst.specs.Polls.{foundBy, Outcome, stop, ahead, polls, writtenTo}
+use Rattle.burst.specs.Out.{packetNumbers, writtenTo}
+use Rattle.burst.specs.Polls.{foundBy, Outcome, stop, ahead, polls}
 use Rattle.burst.specs.Steps.{Reads, Polls, FoundAs, PolledAs}
 
 -- ---- packets before packets

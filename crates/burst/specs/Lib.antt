@@ -1,3 +1,3 @@
-pub mod Sizes
+pub mod Out
 pub mod Polls
 pub mod Steps

@@ -4,7 +4,7 @@ use Prim.Native.Nat.{ℕ, zero, suc, _+_}
 use mathlib.Core.Bool.{cond}
 use mathlib.Core.List.{List, [], _∷_, _++_}
 use lib.Dec.{eqb}
-use lib.ListN.{length, drop}
+use lib.ListN.{length}
 use Rattle.ring.specs.declared.Queue.{Queue}
 use Rattle.ring.specs.Queue.{advanced}
 use Rattle.scan.specs.Slots.{postedSlots}
@@ -48,7 +48,3 @@ polls buffer ring list (suc n) q =
     cond (eqb (f .answer) 0)
     (ahead 1 (f .examined) (q .head ∷ f .count ∷ f .total ∷ []) (polls buffer ring list n (f .queue)))
     (stop (f .answer) (f .queue) (f .examined))
-
--- numbers written from the first place on: the places past them stay
-abbrev pub writtenTo : List ℕ → List ℕ → List ℕ
-writtenTo out numbers = numbers ++ drop (length numbers) out

@@ -8,8 +8,8 @@ use Rattle.ring.specs.declared.Queue.{Queue}
 use Rattle.ring.specs.Queue.{Shared}
 use Rattle.burst.specs.declared.Found.{Found}
 use Rattle.burst.specs.declared.Polled.{Polled}
-use Rattle.burst.specs.Sizes.{mostPackets, burstNumbers}
-use Rattle.burst.specs.Polls.{foundIn, polls, writtenTo}
+use Rattle.burst.specs.Out.{mostPackets, burstNumbers, writtenTo}
+use Rattle.burst.specs.Polls.{foundIn, polls}
 
 -- a record that keeps the shared lines, and a ring of two numbers a slot
 pub record Reads (q : Queue) (ringLength : ℕ) : Type 0 where

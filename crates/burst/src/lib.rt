@@ -8,7 +8,7 @@ ghost use lib.Seq.{sets};
 ghost use Rattle.ring.specs.Steps.{Advance};
 ghost use Rattle.ring.specs.Queue.{advanced, slotOf};
 ghost use Rattle.scan.specs.Scan.{Look};
-ghost use Rattle.burst.specs.Sizes.{packetNumbers};
+ghost use Rattle.burst.specs.Out.{packetNumbers};
 ghost use Rattle.burst.specs.Polls.{foundBy};
 ghost use Rattle.burst.specs.Steps.{Reads, Polls, FoundAs, PolledAs};
 use ring::Queue;

@@ -5,7 +5,7 @@ use mathlib.Core.List.{List, [], _∷_, _++_}
 use lib.ListN.{length, getD, drop, replicate}
 use Rattle.ring.specs.Slots.{run}
 use Rattle.scan.specs.Slots.{slotIn}
-use Rattle.burst.specs.Sizes.{packetNumbers}
+use Rattle.burst.specs.Out.{packetNumbers}
 use Rattle.receive.specs.declared.RxQueue.{RxQueue}
 use Rattle.receive.specs.declared.Packet.{Packet}
 use Rattle.receive.specs.declared.Burst.{Burst}

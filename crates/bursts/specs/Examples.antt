@@ -3,7 +3,7 @@ use Prim.Native.Nat.{ℕ}
 use mathlib.Core.Path.{_≡_}
 use mathlib.Core.List.{List, [], _∷_, _++_, map}
 use lib.ListN.{replicate}
-use Rattle.burst.specs.Sizes.{burstNumbers}
+use Rattle.burst.specs.Out.{burstNumbers}
 use Rattle.receive.specs.Take.{packetOf}
 use Rattle.history.specs.World.{World, Event, poll}
 use Rattle.history.specs.Examples.{start, partIn, lastIn, postFor, writeTo}

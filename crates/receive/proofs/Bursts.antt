@@ -17,14 +17,14 @@ use Rattle.rules.proofs.Checks.{passed, asked-next, first-pass}
 use Rattle.scan.specs.Scan.{packetSlots, examined}
 use Rattle.scan.specs.Told.{sum}
 use Rattle.burst.specs.declared.Polled.{Polled}
-use Rattle.burst.specs.Sizes.{mostPackets, packetNumbers, burstNumbers}
+use Rattle.burst.specs.Out.{mostPackets, packetNumbers, burstNumbers}
 use Rattle.burst.specs.Polls.{Outcome}
 use Rattle.burst.specs.Steps.{Polls, PolledAs}
 use Rattle.receive.specs.declared.RxQueue.{RxQueue}
 use Rattle.receive.specs.declared.Burst.{Burst}
 use Rattle.receive.specs.Queue.{recordOk, lentOk, movedTo}
 use Rattle.receive.specs.Take.{takeOf}
-use Rattle.receive.specs.Burst.{Made, takesFrom, stoppedBy, carried, handing, told, examinedBy, refusals, refusalOf, refusal, made, burstOf, outAfter, BurstAs, Nothing}
+use Rattle.receive.specs.Burst.{Made, takesFrom, stoppedBy, carried, handing, told, examinedBy, refusals, refusalOf, refusal, made, burstOf, outAfter, BurstAs, BurstUnchanged}
 use Rattle.receive.proofs.Laws.{lent}
 use Rattle.receive.proofs.Turns.{as-takes, carried-buffer, carried-keeps, within-limit, up-to-limit, stops-with, stops-again, few}
 
@@ -40,7 +40,7 @@ module _ (q : RxQueue) (ring list out : List ℕ) (limit : ℕ) where
   unfolding burstOf refusalOf
   answer-is = asked-next (refusals q (length ring) (length list) (length out) limit) (stoppedBy (made q ring list out limit) when true ∷ []) tt
 
-  pub refused : refusal q ring list out limit ≢ 0 → Nothing q ring list out limit
+  pub refused : refusal q ring list out limit ≢ 0 → BurstUnchanged q ring list out limit
   unfolding burstOf outAfter made carried handing told sum
   refused ne = let e = ne-eqb _ _ ne in record { result-is = rw (answer-is, e); out-same = rw e }
 

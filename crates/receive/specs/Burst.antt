@@ -10,8 +10,7 @@ use Rattle.rules.specs.Rules.{within, Check, _when_, answerOf}
 use Rattle.scan.specs.Slots.{postedSlots}
 use Rattle.scan.specs.Scan.{examined}
 use Rattle.scan.specs.Told.{sum}
-use Rattle.burst.specs.Sizes.{mostPackets, burstNumbers}
-use Rattle.burst.specs.Polls.{writtenTo}
+use Rattle.burst.specs.Out.{mostPackets, burstNumbers, writtenTo}
 use Rattle.receive.specs.declared.RxQueue.{RxQueue}
 use Rattle.receive.specs.declared.Taken.{Taken}
 use Rattle.receive.specs.declared.Burst.{Burst}
@@ -94,7 +93,7 @@ module _ (q : RxQueue) (ring list out : List ℕ) (limit : ℕ) where
     pub out-is : out′ ≡ outAfter
 
   -- a burst refused with 1 or 10 changes nothing, and tells nothing
-  pub record Nothing : Type 0 where
+  pub record BurstUnchanged : Type 0 where
     pub result-is : burstOf ≡ record { answer = refusal; queue = q; packets = 0; examined = 0 }
     pub out-same : outAfter ≡ out
 
