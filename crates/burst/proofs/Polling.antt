@@ -14,7 +14,7 @@ use lib.Seq.{length-take-le, length-front, take-at, drop-append-add, drop-drop, 
 use Rattle.ring.specs.declared.Queue.{Queue}
 use Rattle.ring.specs.Queue.{Shared}
 use Rattle.ring.proofs.Record.{moved-on}
-use Rattle.scan.specs.Slots.{postedSlots}
+use Rattle.scan.specs.Slots.{Slot, postedSlots}
 use Rattle.scan.specs.Scan.{packetSlots, examined, Look, refuse, whole, scan}
 use Rattle.scan.proofs.Scans.{reads-few}
 use Rattle.burst.specs.declared.Found.{Found}
@@ -51,32 +51,16 @@ written-more out ns ms n e h =
 -- ---- one walk
 
 module _ (q : Queue) (buffer : ℕ) (ring : List ℕ) (f : Found) (found : FoundAs q buffer ring f) where
-  found-shared : Shared q → Shared (f .queue)
+  -- the record keeps what reading asks, and at most five slots were examined
+  pub found-keeps : (ringLength : ℕ) → Reads q ringLength → Reads (f .queue) ringLength × (f .examined ≤ packetSlots)
   unfolding foundBy
-  found-shared s = rw (found []) (go (scan buffer 0 (postedSlots q ring [])) (examined buffer 0 (postedSlots q ring [])))
+  found-keeps ringLength r =
+      let slots : List Slot = postedSlots q ring [] in
+      rw (found []) (go (scan buffer 0 slots) (examined buffer 0 slots) (reads-few buffer 0 slots (omega arith)))
     where
-      go : (l : Look) (e : ℕ) → Shared (foundBy l q e .queue)
-      go (refuse n) e = s
-      go (whole p) e = moved-on s (length p)
-
-  found-size : f .queue .size ≡ q .size
-  unfolding foundBy
-  found-size = rw (found []) (go (scan buffer 0 (postedSlots q ring [])) (examined buffer 0 (postedSlots q ring [])))
-    where
-      go : (l : Look) (e : ℕ) → foundBy l q e .queue .size ≡ q .size
-      go (refuse n) e = refl
-      go (whole p) e = refl
-
-  pub found-few : f .examined ≤ packetSlots
-  unfolding foundBy
-  found-few = rw (found []) (go (scan buffer 0 (postedSlots q ring [])) (examined buffer 0 (postedSlots q ring [])) (reads-few buffer 0 (postedSlots q ring []) (omega arith)))
-    where
-      go : (l : Look) (e : ℕ) → 0 + e ≤ packetSlots → foundBy l q e .examined ≤ packetSlots
-      go (refuse n) e h = omega arith
-      go (whole p) e h = omega arith
-
-  found-reads : (ringLength : ℕ) → Reads q ringLength → Reads (f .queue) ringLength
-  found-reads ringLength r = record { is = found-shared (r .is); ring-long = r .ring-long ∙ rw found-size }
+      go : (l : Look) (e : ℕ) → 0 + e ≤ packetSlots → Reads (foundBy l q e .queue) ringLength × (foundBy l q e .examined ≤ packetSlots)
+      go (refuse n) e h = (r, omega arith)
+      go (whole p) e h = (record { is = moved-on (r .is) (length p); ring-long = r .ring-long }, omega arith)
 
   -- the packets that may still come, by what is found
   opened : (n : ℕ) (list : List ℕ) → polls buffer ring list (suc n) q
@@ -116,12 +100,13 @@ module _ (start : Queue) (buffer : ℕ) (ring out₀ : List ℕ) (limit : ℕ) w
       pub out-long : length out ≡ length out₀
       out-long = ap length (p .out-is) ∙ written-long out₀ (p .numbers) numbers-fit
 
-      stopped-as : (n f : ℕ) (r : Queue) → ((list : List ℕ) → polls buffer ring list (limit - packets) q ≡ stop n r f)
-          → PolledAs start buffer ring out₀ limit (record { answer = n; queue = r; packets = packets; examined = e + f }) out
-      stopped-as n f r h =
-          let all : (list : List ℕ) → polls buffer ring list limit start ≡ record { result = record { answer = n; queue = r; packets = packets; examined = e + f }; numbers = p .numbers } =
-          λ list. p .so-far list ∙ rw (h list) (ahead-stop packets e (p .numbers) n r f) in
-          record { result-is = λ list. rw (all list); out-is = λ list. p .out-is ∙ rw (all list) }
+      module _ (n f : ℕ) (r : Queue) (h : (list : List ℕ) → polls buffer ring list (limit - packets) q ≡ stop n r f) where
+        all : (list : List ℕ) → polls buffer ring list limit start ≡ record { result = record { answer = n; queue = r; packets = packets; examined = e + f }; numbers = p .numbers }
+        all list = p .so-far list ∙ rw (h list) (ahead-stop packets e (p .numbers) n r f)
+
+        -- nothing comes behind these packets but a stop
+        stopped-as : PolledAs start buffer ring out₀ limit (record { answer = n; queue = r; packets = packets; examined = e + f }) out
+        stopped-as = record { result-is = λ list. rw (all list); out-is = λ list. p .out-is ∙ rw (all list) }
 
       -- the limit is reached
       pub at-limit : limit ≤ packets → PolledAs start buffer ring out₀ limit (record { answer = 0; queue = q; packets = packets; examined = e }) out
@@ -131,7 +116,7 @@ module _ (start : Queue) (buffer : ℕ) (ring out₀ : List ℕ) (limit : ℕ) w
           rw add-zero at (stopped-as 0 0 q (λ list. rw z))
 
       module _ (h : packets < limit) (f : Found) (found : FoundAs q buffer ring f) where
-        abbrev one-more : limit - packets ≡ suc (limit - (packets + 1))
+        one-more : limit - packets ≡ suc (limit - (packets + 1))
         one-more = omega arith
 
         -- none is found
@@ -148,8 +133,8 @@ module _ (start : Queue) (buffer : ℕ) (ring out₀ : List ℕ) (limit : ℕ) w
               long = length-append (p .numbers) told ∙ omega (arith, p .long);
               out-is = o ∙ rw (p .out-is) (written-more out₀ (p .numbers) told _ (p .long) (omega (arith, asked .limit-high, asked .out-long)));
               within = omega arith;
-              reads = found-reads q buffer ring f found _ (p .reads);
-              few = omega (arith, p .few, found-few q buffer ring f found);
+              reads = found-keeps q buffer ring f found _ (p .reads) .0;
+              few = omega (arith, p .few, found-keeps q buffer ring f found _ (p .reads) .1);
               so-far =
                   λ list.
                   p .so-far list

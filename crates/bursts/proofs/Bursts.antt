@@ -57,6 +57,11 @@ module _ (w : World) where
         refl
         (takes-say limit (w .queue))
 
+-- takes are always allowed
+takes-allowed : (n : ℕ) (w : World) → AllAllowed w (replicate n poll)
+takes-allowed zero w = tt
+takes-allowed (suc n) w = (tt, takes-allowed n (after w poll))
+
 -- ---- the packets that a burst tells are those of its takes
 
 abbrev packetsOf : List Made → List Packet
@@ -118,14 +123,10 @@ module _ (w : World) where
   act-up (event e) = rw append-nil
   act-up (burst out limit) = rw (burst-says w out limit) (answered (madeAt w out limit) ∙ sym (burst-tells out limit))
 
-  polls-allowed : (n : ℕ) (v : World) → AllAllowed v (replicate n poll)
-  polls-allowed zero v = tt
-  polls-allowed (suc n) v = (tt, polls-allowed n (after v poll))
-
   act-allowed : (a : Act) → ActAllowed w a → AllAllowed w (asEvents w a)
   unfolding asEvents
   act-allowed (event e) h = (h, tt)
-  act-allowed (burst out limit) h = polls-allowed (length (madeAt w out limit)) w
+  act-allowed (burst out limit) h = takes-allowed (length (madeAt w out limit)) w
 
   pub as-takes : (out : List ℕ) (limit : ℕ) → AsTakes w out limit
   as-takes out limit = record { takesSay = burst-says w out limit; takesLeave = burst-leaves w out limit }

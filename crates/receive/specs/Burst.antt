@@ -51,7 +51,7 @@ unfoldable pub told : List Made → List ℕ
 told [] = []
 told (m ∷ ms) = m .on .shared .head ∷ m .taken .packet .count ∷ m .taken .packet .total ∷ told ms
 
--- the slots whose word 1 a take reads; a take with nothing posted reads none
+-- how many slots a take reads word 1 of; with nothing posted it reads none
 abbrev pub examinedBy : List ℕ → List ℕ → Made → ℕ
 examinedBy ring list m = examined (m .on .buffer) 0 (postedSlots (m .on .shared) ring list)
 

@@ -100,21 +100,23 @@ refused-with buffer k (s ∷ rest) n h =
 
 -- ---- the slots that a scan examines
 
--- it goes on only behind a slot that is not the fifth
-goes-within : (buffer k : ℕ) (s : Slot) → goesOn buffer k (s .words) ≡ true → suc k < packetSlots
-unfolding goesOn
-goes-within buffer k s g =
-    let b = both (writable buffer k (s .words)) (not (eop (s .words))) g in
-    not-fifth buffer k s (parts buffer k s (b .0) .1) (not-true _ (b .1))
+module _ (buffer k : ℕ) (s : Slot) (g : goesOn buffer k (s .words) ≡ true) where
+  -- it goes on behind a slot that is written, as the rules allow it there, without EOP
+  going : (dd (s .words) ≡ true) × (allowed buffer k (s .words) ≡ true) × (eop (s .words) ≡ false)
+  unfolding goesOn
+  going =
+      let b = both (writable buffer k (s .words)) (not (eop (s .words))) g in
+      let p = parts buffer k s (b .0) in
+      (p .0, p .1, not-true _ (b .1))
 
--- and what it sees then is the slot before what it sees behind it
-goes-alike : (buffer k : ℕ) (s : Slot) (r r′ : List Slot) → goesOn buffer k (s .words) ≡ true → scan buffer (suc k) r ≡ scan buffer (suc k) r′
-    → scan buffer k (s ∷ r) ≡ scan buffer k (s ∷ r′)
-unfolding goesOn
-goes-alike buffer k s r r′ g e =
-    let b = both (writable buffer k (s .words)) (not (eop (s .words))) g in
-    let p = parts buffer k s (b .0) in
-    allowed-on buffer k s r (p .0) (p .1) (not-true _ (b .1)) ∙ rw e (sym (allowed-on buffer k s r′ (p .0) (p .1) (not-true _ (b .1))))
+  -- so never behind the fifth
+  goes-within : suc k < packetSlots
+  goes-within = not-fifth buffer k s (going .1) (going .2)
+
+  -- and what it sees is the slot before what it sees behind it
+  goes-alike : (r r′ : List Slot) → scan buffer (suc k) r ≡ scan buffer (suc k) r′ → scan buffer k (s ∷ r) ≡ scan buffer k (s ∷ r′)
+  goes-alike r r′ e =
+      allowed-on buffer k s r (going .0) (going .1) (going .2) ∙ rw e (sym (allowed-on buffer k s r′ (going .0) (going .1) (going .2)))
 
 module _ (buffer : ℕ) where
   -- none past the posted
@@ -174,7 +176,7 @@ unread buffer k (s ∷ rest) others h = go (goesOn buffer k (s .words)) refl h (
     go : (b : Bool) → goesOn buffer k (s .words) ≡ b → length others ≡ suc (length rest) - suc (cond b (examined buffer (suc k) rest) 0)
         → (length others ≡ length rest - examined buffer (suc k) rest → scan buffer (suc k) (take (examined buffer (suc k) rest) rest ++ others) ≡ scan buffer (suc k) rest)
         → scan buffer k (take (suc (cond b (examined buffer (suc k) rest) 0)) (s ∷ rest) ++ others) ≡ scan buffer k (s ∷ rest)
-    go true g l r = goes-alike buffer k s _ rest g (r (omega arith))
+    go true g l r = goes-alike buffer k s g _ rest (r (omega arith))
     go false g l r = stops-alike buffer k s others rest g
 
 -- the number of what a scan sees

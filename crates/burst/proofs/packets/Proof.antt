@@ -2,7 +2,7 @@
 -- Assumes nothing.
 use Prim.Native.Nat.{_-_}
 use native.Mathlib.Omega.{arith}
-use Rattle.burst.proofs.Polling.{Polling, begins, out-long, at-limit, at-stop, goes-on, found-few}
+use Rattle.burst.proofs.Polling.{Polling, begins, out-long, at-limit, at-stop, goes-on, found-keeps}
 use Rattle.burst.proofs.packets.Statement.{statement}
 use Rattle.burst.proofs.packets.Tie as tie
 
@@ -22,7 +22,7 @@ add-examined : tie.Need-add-examined Inv-loop μ-loop
 add-examined c =
     let l = c .before .before .before .before in
     let asked = l .before .before .before .pre in
-    omega (arith, l .loop .inv .few, l .loop .inv .within, asked .limit-high, found-few _ _ _ _ (c .before .before .packet .ensures))
+    omega (arith, l .loop .inv .few, l .loop .inv .within, asked .limit-high, found-keeps _ _ _ _ (c .before .before .packet .ensures) _ (l .loop .inv .reads) .1)
 
 same-length : tie.Need-same-length Inv-loop μ-loop
 same-length c =
