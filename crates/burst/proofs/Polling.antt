@@ -12,7 +12,7 @@ use lib.Dec.{eqb}
 use lib.ListN.{length, drop, length-append}
 use lib.Seq.{length-take-le, length-front, take-at, drop-append-add, drop-drop, sets, sets-eq}
 use Rattle.ring.specs.declared.Queue.{Queue}
-use Rattle.ring.specs.Queue.{Shared}
+use Rattle.ring.specs.Steps.{Reads}
 use Rattle.ring.proofs.Record.{moved-on}
 use Rattle.scan.specs.Slots.{Slot, postedSlots}
 use Rattle.scan.specs.Scan.{packetSlots, examined, Look, refuse, whole, scan}
@@ -20,7 +20,7 @@ use Rattle.scan.proofs.Scans.{reads-few}
 use Rattle.burst.specs.declared.Found.{Found}
 use Rattle.burst.specs.Out.{packetNumbers, writtenTo}
 use Rattle.burst.specs.Polls.{foundBy, Outcome, stop, ahead, polls}
-use Rattle.burst.specs.Steps.{Reads, Polls, FoundAs, PolledAs}
+use Rattle.burst.specs.Steps.{Polls, FoundAs, PolledAs}
 
 -- ---- packets before packets
 

@@ -1,22 +1,17 @@
 -- What the functions of this crate ask and say. No public contract cites these. The companion list tells where a packet's buffers are, and a burst does
 -- not say that: so what they say holds whatever the list.
 -- Assumes nothing.
-use Prim.Native.Nat.{ℕ, _*_, _≤_}
+use Prim.Native.Nat.{ℕ, _≤_}
 use mathlib.Core.Path.{_≡_}
 use mathlib.Core.List.{List}
 use Rattle.ring.specs.declared.Queue.{Queue}
-use Rattle.ring.specs.Queue.{Shared}
+use Rattle.ring.specs.Steps.{Reads}
 use Rattle.burst.specs.declared.Found.{Found}
 use Rattle.burst.specs.declared.Polled.{Polled}
 use Rattle.burst.specs.Out.{mostPackets, burstNumbers, writtenTo}
 use Rattle.burst.specs.Polls.{foundIn, polls}
 
--- a record that keeps the shared lines, and a ring of two numbers a slot
-pub record Reads (q : Queue) (ringLength : ℕ) : Type 0 where
-  pub is : Shared q
-  pub ring-long : ringLength ≡ 2 * q .size
-
--- and a list and a limit as a burst has them
+-- what a burst reads, and its list and its limit
 pub record Polls (q : Queue) (ringLength outLength limit : ℕ) : Type 0 where
   pub reads : Reads q ringLength
   pub out-long : outLength ≡ burstNumbers

@@ -5,12 +5,12 @@ ghost use mathlib.Core.List.{[], _∷_};
 ghost use Prim.Native.Nat.{_+_, _*_, _≤_};
 ghost use lib.ListN.{length};
 ghost use lib.Seq.{sets};
-ghost use Rattle.ring.specs.Steps.{Advance};
+ghost use Rattle.ring.specs.Steps.{Reads, Advance};
 ghost use Rattle.ring.specs.Queue.{advanced, slotOf};
 ghost use Rattle.scan.specs.Scan.{Look};
 ghost use Rattle.burst.specs.Out.{packetNumbers};
 ghost use Rattle.burst.specs.Polls.{foundBy};
-ghost use Rattle.burst.specs.Steps.{Reads, Polls, FoundAs, PolledAs};
+ghost use Rattle.burst.specs.Steps.{Polls, FoundAs, PolledAs};
 use ring::Queue;
 
 // What tells a packet: its first slot, its slot count, its total length.

@@ -105,9 +105,7 @@ module _ (q : RxQueue) (ring list out : List ℕ) (limit : ℕ) where
 
     -- so what the walk of the code asks holds
     pub asks : Polls (q .shared) (length ring) (length out) limit
-    asks =
-        let l = lent q (length ring) (length list) (passes .0) in
-        record { reads = record { is = l .is; ring-long = l .ring-long }; out-long = eqb-true _ _ (passes .1); limit-high = limits .1 }
+    asks = record { reads = lent q (length ring) (length list) (passes .0) .reads; out-long = eqb-true _ _ (passes .1); limit-high = limits .1 }
 
     pub all-made : made q ring list out limit ≡ takes
     unfolding made

@@ -48,7 +48,7 @@ module _ (q : RxQueue) (ringLength listLength : ℕ) (e : lentOk q ringLength li
   pub lent : Lent (q .shared) ringLength listLength
   lent =
       let l = both (eqb ringLength (2 * q .shared .size)) (eqb listLength (q .shared .size)) (apart .1) in
-      record { is = kept q (apart .0); ring-long = eqb-true _ _ (l .0); list-long = eqb-true _ _ (l .1) }
+      record { reads = record { is = kept q (apart .0); ring-long = eqb-true _ _ (l .0) }; list-long = eqb-true _ _ (l .1) }
 
   pub lent-buffer : leastBuffer ≤ q .buffer
   lent-buffer = steps-is leastBuffer mostBuffer bufferStep (q .buffer) (lines q (apart .0) .1) .least

@@ -68,6 +68,6 @@ module _ (q : RxQueue) (ring list : List ℕ) (address : ℕ) where
       rw (eq-eqb (answerTo q ring list address) 0 e, add-one (q .shared .posted))
       (run-snoc at′ (q .shared .size) (q .shared .head) (q .shared .posted)
       ∙ rw (
-        run-outside at at′ (q .shared .size) (q .shared .head) (q .shared .posted) (q .shared .posted) (omega arith) (l .is .posted-below) (put-other ring list (tailOf (q .shared)) address),
-        put-same ring list (tailOf (q .shared)) address (q .shared .size) (tail-below (q .shared) (l .is)) (l .ring-long) (l .list-long),
+        run-outside at at′ (q .shared .size) (q .shared .head) (q .shared .posted) (q .shared .posted) (omega arith) (l .reads .is .posted-below) (put-other ring list (tailOf (q .shared)) address),
+        put-same ring list (tailOf (q .shared)) address (q .shared .size) (tail-below (q .shared) (l .reads .is)) (l .reads .ring-long) (l .list-long),
       ))

@@ -19,10 +19,14 @@ pub record SlotIs (head size k r : ℕ) : Type 0 where
   pub below : r < size
   pub small : size ≤ mostSlots
 
--- what reading slots asks: a record that keeps the shared lines, a ring of two numbers a slot and a list of one
-pub record Lent (q : Queue) (ringLength listLength : ℕ) : Type 0 where
+-- what reading a ring's slots asks: a record that keeps the shared lines, and a ring of two numbers a slot
+pub record Reads (q : Queue) (ringLength : ℕ) : Type 0 where
   pub is : Shared q
   pub ring-long : ringLength ≡ 2 * q .size
+
+-- and with them a list of one number a slot
+pub record Lent (q : Queue) (ringLength listLength : ℕ) : Type 0 where
+  pub reads : Reads q ringLength
   pub list-long : listLength ≡ q .size
 
 -- what moving on by n slots asks: they are posted

@@ -19,7 +19,7 @@ returns c =
 one-more-requires : tie.Need-one-more-requires
 one-more-requires c κs =
     let e = sym (c .before .post-answer .ensures) ∙ c .if1 .left in
-    record { is = done-lent _ _ _ _ e .is; room = done-room _ _ _ _ e }
+    record { is = done-lent _ _ _ _ e .reads .is; room = done-room _ _ _ _ e }
 
 put-requires : tie.Need-put-requires
 put-requires c κs = done-lent _ _ _ _ (sym (c .before .before .before .before .post-answer .ensures) ∙ c .before .before .before .if1 .left)

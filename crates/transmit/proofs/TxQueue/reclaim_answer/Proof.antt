@@ -14,7 +14,7 @@ lent-ok-requires c κs = search needs
 answer-requires : tie.Need-answer-requires
 answer-requires c κs =
     let l = lent _ _ _ _ (sym (c .before .lent-ok .ensures) ∙ c .if1 .taken) in
-    record { is = l .is .shared-is; ring-long = l .ring-long; list-long = l .counts-long }
+    record { reads = record { is = l .is .shared-is; ring-long = l .ring-long }; list-long = l .counts-long }
 
 returns : tie.Need-returns
 unfolding reclaimAnswer doneAnswer
