@@ -16,7 +16,7 @@ use Rattle.ring.specs.Steps.{Reads}
 use Rattle.ring.proofs.Record.{moved-on}
 use Rattle.scan.specs.Slots.{Slot, postedSlots}
 use Rattle.scan.specs.Scan.{packetSlots, examined, Look, refuse, whole, scan}
-use Rattle.scan.proofs.Scans.{reads-few}
+use Rattle.scan.proofs.Scans.{reads-few, seen-posted}
 use Rattle.burst.specs.declared.Found.{Found}
 use Rattle.burst.specs.Out.{packetNumbers, writtenTo}
 use Rattle.burst.specs.Polls.{foundBy, Outcome, stop, ahead, polls}
@@ -56,11 +56,11 @@ module _ (q : Queue) (buffer : ℕ) (ring : List ℕ) (f : Found) (found : Found
   unfolding foundBy
   found-keeps ringLength r =
       let slots : List Slot = postedSlots q ring [] in
-      rw (found []) (go (scan buffer 0 slots) (examined buffer 0 slots) (reads-few buffer 0 slots (omega arith)))
+      rw (found []) (go (scan buffer 0 slots) (examined buffer 0 slots) refl (reads-few buffer 0 slots (omega arith)))
     where
-      go : (l : Look) (e : ℕ) → 0 + e ≤ packetSlots → Reads (foundBy l q e .queue) ringLength × (foundBy l q e .examined ≤ packetSlots)
-      go (refuse n) e h = (r, omega arith)
-      go (whole p) e h = (record { is = moved-on (r .is) (length p); ring-long = r .ring-long }, omega arith)
+      go : (l : Look) (e : ℕ) → scan buffer 0 (postedSlots q ring []) ≡ l → 0 + e ≤ packetSlots → Reads (foundBy l q e .queue) ringLength × (foundBy l q e .examined ≤ packetSlots)
+      go (refuse n) e s h = (r, omega arith)
+      go (whole p) e s h = (record { is = moved-on (r .is) (length p) (seen-posted q ring [] buffer 0 p s); ring-long = r .ring-long }, omega arith)
 
   -- the packets that may still come, by what is found
   opened : (n : ℕ) (list : List ℕ) → polls buffer ring list (suc n) q

@@ -5,8 +5,7 @@ ghost use mathlib.Core.List.{[], _∷_};
 ghost use Prim.Native.Nat.{_+_, _*_, _≤_};
 ghost use lib.ListN.{length};
 ghost use lib.Seq.{sets};
-ghost use Rattle.ring.specs.Steps.{Reads, Advance};
-ghost use Rattle.ring.specs.Queue.{advanced, slotOf};
+ghost use Rattle.ring.specs.Steps.{Reads};
 ghost use Rattle.scan.specs.Scan.{Look};
 ghost use Rattle.burst.specs.Out.{packetNumbers};
 ghost use Rattle.burst.specs.Polls.{foundBy};
@@ -46,20 +45,6 @@ fn refused(queue: Queue, answer: u8, examined: usize) -> Found
     }
 }
 
-// The record behind a packet of n slots, whose next slot the walk has come to.
-fn behind(queue: Queue, next: usize, n: usize) -> Queue
-    requires { ⌜ Advance queue n ⌝ }
-    requires { ⌜ next ≡ slotOf queue n ⌝ }
-    ensures { λ r. ⌜ r ≡ advanced queue n ⌝ }
-{
-    Queue {
-        queue: queue.queue,
-        size: queue.size,
-        head: next,
-        posted: queue.posted - n,
-    }
-}
-
 // Answers 4 or 5 at the first slot that asks for it, or 0 with the packet's two numbers: a take's scan, without what it builds. It goes from slot to
 // slot, and the slot that it comes to is the next head.
 fn packet(queue: Queue, buffer: usize, ring: &[u64]) -> Found
@@ -81,7 +66,7 @@ fn packet(queue: Queue, buffer: usize, ring: &[u64]) -> Found
             if places::eop(word1) {
                 return Found {
                     answer: 0,
-                    queue: behind(queue, at, k),
+                    queue: queue.moved_to(at, k),
                     count: k,
                     total,
                     examined: k,

@@ -181,12 +181,12 @@ unfolding end after
 reply-wrote v [] a = refl
 reply-wrote v (x ∷ D) a = reply-wrote (stored v x) D a ∙ reply-stored v x a
 
-post-can : (v : World) (d : ℕ) (D : List Words) (a : ℕ) → Fit v → Can v d D → Can (after v (post a)) d D
+post-can : (v : World) (d : ℕ) (D : List Words) (a : ℕ) → Can v d D → Can (after v (post a)) d D
 unfolding placed
-post-can v d D a f c = go (ℕ-discrete (postAt v a .answer) 0)
+post-can v d D a c = go (ℕ-discrete (postAt v a .answer) 0)
   where
     go : Dec (postAt v a .answer ≡ 0) → Can (after v (post a)) d D
-    go (yes e) = rw (after-accepted v a e) (record { place = c .place; room = omega (arith, c .room); lap = room v a f e; legal = c .legal })
+    go (yes e) = rw (after-accepted v a e) (record { place = c .place; room = omega (arith, c .room); lap = room v a e .room; legal = c .legal })
     go (no ne) = rw (after-refused v a ne) c
 
 -- ---- a write and a take of slots before it change places
@@ -345,7 +345,7 @@ later [] v w D A e h c t =
 later (post a ∷ es) v w D A e h c t =
     later-post a es v w D e (holds-left (after v (post a)) _ (post-holds v [] A a h))
     (later es (after v (post a)) (after w (post a)) D _ (sym (post-wrote v 0 D a c) ∙ ap (λ (u : World). after u (post a)) e)
-    (post-holds v [] A a h) (post-can v 0 D a (h .fit) c) (t .1))
+    (post-holds v [] A a h) (post-can v 0 D a c) (t .1))
 later (poll ∷ es) v w D A e h c t = go (cut (w .queue .buffer) 0 (filled A D) (hw .1 .legal)) (λ v′ w′ D′ A′ e′ h′ c′ t′. later es v′ w′ D′ A′ e′ h′ c′ t′)
   where
     hw : (A′ : List ℕ) × Holds w (filled A D) A′

@@ -1,5 +1,5 @@
 -- One event, and then any list of them: what is handed up is cut from the front of what the device has written. Assumes nothing.
-use Prim.Native.Nat.{ℕ, _-_}
+use Prim.Native.Nat.{ℕ}
 use native.Mathlib.Decide.{ℕ-discrete}
 use borrow.Author.Tests.{ne-eqb}
 use mathlib.Core.Path.{_≡_, refl, _∙_}
@@ -9,6 +9,7 @@ use mathlib.Core.List.{List, [], _∷_, _++_, map, append-assoc, append-nil, map
 use lib.Dec.{eqb}
 use lib.ListN.{length, drop}
 use Rattle.rules.specs.Address.{addressWrong}
+use Rattle.ring.specs.Queue.{noRoom}
 use Rattle.places.specs.Words.{Words}
 use Rattle.scan.specs.Slots.{Slot}
 use Rattle.scan.specs.Scan.{refuse, whole}
@@ -50,7 +51,7 @@ post-holds w L A a h = go (ℕ-discrete (postAt w a .answer) 0)
 -- a post answers 0, 2 or 3
 usual-post : (w : World) (a : ℕ) → Fit w → usual (posted (postAt w a)) ≡ true
 unfolding usual oneOf
-usual-post w a f = rw (answer-fit w a f) (go (addressWrong a (w .queue .buffer)) (eqb (w .queue .shared .posted) (w .queue .shared .size - 1)))
+usual-post w a f = rw (answer-fit w a f) (go (addressWrong a (w .queue .buffer)) (noRoom (w .queue .shared) 1))
   where
     go : (b c : Bool) → oneOf (0 ∷ 2 ∷ 3 ∷ []) (cond b 2 (cond c 3 0)) ≡ true
     go true c = refl

@@ -13,7 +13,8 @@ use lib.ListN.{length, set, drop, length-set, length-append, length-map}
 use lib.Seq.{drop-append-seam, set-at, getD-at}
 use Rattle.rules.specs.Address.{addressWrong}
 use Rattle.ring.specs.Slots.{slotAt, run}
-use Rattle.ring.specs.Queue.{Shared, tailOf}
+use Rattle.ring.specs.Queue.{Shared, tailOf, noRoom}
+use Rattle.ring.specs.Steps.{Grow}
 use Rattle.ring.proofs.Stores.{length-store}
 use Rattle.ring.proofs.Runs.{length-run, run-mod, run-drop}
 use Rattle.places.specs.Words.{Words}
@@ -23,7 +24,7 @@ use Rattle.scan.specs.Slots.{Slot, slotIn, storeWords, postedSlots}
 use Rattle.receive.specs.Post.{postAnswer, blank, oneMore}
 use Rattle.scan.specs.Scan.{writable, Look, refuse, whole}
 use Rattle.receive.specs.Take.{packetOf, look, advanced, takeBy, takeOf}
-use Rattle.receive.proofs.Laws.{fresh-lines, fresh-queue, kept, done-room}
+use Rattle.receive.proofs.Laws.{fresh-lines, fresh-queue, kept, done-grows}
 use Rattle.receive.proofs.Posts.{post-adds}
 use Rattle.receive.proofs.Keeps.{one-more-ok, advanced-ok}
 use Rattle.history.specs.World.{World, post, poll, write, slotsIn, postAt, takeAt, after, Start}
@@ -95,14 +96,14 @@ unfolding lentOk
 fit-lent w f = rw (f .ok, eq-eqb _ _ (f .ring), eq-eqb _ _ (f .list))
 
 pub answer-fit : (w : World) (a : ℕ) → Fit w
-    → postAt w a .answer ≡ cond (addressWrong a (w .queue .buffer)) 2 (cond (eqb (w .queue .shared .posted) (w .queue .shared .size - 1)) 3 0)
+    → postAt w a .answer ≡ cond (addressWrong a (w .queue .buffer)) 2 (cond (noRoom (w .queue .shared) 1) 3 0)
 unfolding postAt postAnswer
 answer-fit w a f = rw (fit-lent w f)
 
--- a post that is accepted leaves a slot free
-pub room : (w : World) (a : ℕ) → Fit w → postAt w a .answer ≡ 0 → w .queue .shared .posted + 1 < w .queue .shared .size
+-- a post that is accepted had room, and leaves a slot free
+pub room : (w : World) (a : ℕ) → postAt w a .answer ≡ 0 → Grow (w .queue .shared) 1
 unfolding postAt
-room w a f e = done-room (w .queue) (length (w .ring)) (length (w .list)) a e
+room w a e = done-grows (w .queue) (length (w .ring)) (length (w .list)) a e
 
 pub view-length : (w : World) → length (slotsIn w) ≡ w .queue .shared .posted
 unfolding slotsIn postedSlots
@@ -181,7 +182,7 @@ holds-post w L A a h e =
     record {
       fit =
           record {
-            ok = one-more-ok (w .queue) (h .fit .ok) (room w a (h .fit) e);
+            ok = one-more-ok (w .queue) (h .fit .ok) (room w a e);
             ring = length-store 2 (w .ring) (tailOf (w .queue .shared)) (pair (blank a)) ∙ h .fit .ring;
             list = length-set (w .list) (tailOf (w .queue .shared)) a ∙ h .fit .list;
           };
@@ -218,7 +219,7 @@ holds-take w L A h c =
     record {
       fit =
           record {
-            ok = advanced-ok (w .queue) (h .fit .ok) (length (c .head));
+            ok = advanced-ok (w .queue) (h .fit .ok) (length (c .head)) (omega (arith, holds-count w L A h, ap length (c .run), length-append (c .head) (c .rest)));
             ring = h .fit .ring;
             list = h .fit .list;
           };

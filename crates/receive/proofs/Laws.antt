@@ -1,19 +1,20 @@
 -- What an accepted record and accepted lent slices keep, as facts; and what an accepted post does.
 -- Assumes nothing.
-use Prim.Native.Nat.{ℕ, _+_, _-_, _*_, _^_, _≤_, _<_}
+use Prim.Native.Nat.{ℕ, _*_, _^_, _≤_, _<_}
 use mathlib.Core.Path.{_≡_, sym, _∙_}
 use mathlib.Core.Bool.{true, not, _&&_}
 use mathlib.Core.List.{[], _∷_}
 use native.Mathlib.Omega.{arith}
-use borrow.Author.Tests.{eqb-true, eqb-false, not-false}
+use borrow.Author.Tests.{eqb-true, not-false}
 use lib.Dec.{eqb}
 use Rattle.rules.specs.Rules.{_when_}
 use Rattle.rules.proofs.Tests.{both, steps-is}
 use Rattle.rules.proofs.Checks.{passed}
 use Rattle.ring.specs.Sizes.{tailBits}
 use Rattle.ring.specs.Queue.{Shared, sharedOk}
-use Rattle.ring.specs.Steps.{Lent}
+use Rattle.ring.specs.Steps.{Lent, Grow}
 use Rattle.ring.proofs.Record.{shared, tail-fits, asked-below}
+use Rattle.ring.proofs.Counts.{grows}
 use Rattle.receive.specs.declared.RxQueue.{RxQueue}
 use Rattle.receive.specs.Queue.{leastBuffer, mostBuffer, bufferStep, bufferOk, recordOk, lentOk, emptyQueue, freshOf, tailValueOf}
 use Rattle.receive.specs.Post.{postChecks, postAnswer}
@@ -58,8 +59,7 @@ pub done-lent : (q : RxQueue) (ringLength listLength address : ℕ) → postAnsw
 unfolding postAnswer
 done-lent q ringLength listLength address e = lent q ringLength listLength (not-false _ (passed (postChecks q ringLength listLength address) tt e 0))
 
-pub done-room : (q : RxQueue) (ringLength listLength address : ℕ) → postAnswer q ringLength listLength address ≡ 0 → q .shared .posted + 1 < q .shared .size
+pub done-grows : (q : RxQueue) (ringLength listLength address : ℕ) → postAnswer q ringLength listLength address ≡ 0 → Grow (q .shared) 1
 unfolding postAnswer
-done-room q ringLength listLength address e =
-    let l = done-lent q ringLength listLength address e in
-    omega (arith, eqb-false (q .shared .posted) (q .shared .size - 1) (passed (postChecks q ringLength listLength address) tt e 2))
+done-grows q ringLength listLength address e =
+    grows (q .shared) 1 (done-lent q ringLength listLength address e .reads .is) (passed (postChecks q ringLength listLength address) tt e 2)

@@ -1,6 +1,6 @@
 -- What take gives back: zeros beside a refusal, and else exactly the first of the posted slots that make a packet as the device's rules have it.
 -- Assumes nothing.
-use Prim.Native.Nat.{ℕ, _+_}
+use Prim.Native.Nat.{ℕ, _≤_}
 use mathlib.Core.Path.{_≡_, refl, ap, _∙_}
 use mathlib.Core.Logic.{_≢_, ⊎-elim}
 use mathlib.Core.Bool.{Bool, true, false, not, cond}
@@ -14,7 +14,7 @@ use Rattle.writeback.specs.WriteBack.{writeBackOf}
 use Rattle.scan.specs.Slots.{Slot, postedSlots}
 use Rattle.scan.specs.Scan.{Complete, Look, refuse, whole, scan}
 use Rattle.scan.specs.Told.{sum, padded, addressesOf, lengthsOf, lastWords, seenOf, seenBy}
-use Rattle.scan.proofs.Scans.{has-some, has-few, is-seen, seen-is, refused-with, slots-long, place-at, place-past}
+use Rattle.scan.proofs.Scans.{has-some, has-few, is-seen, seen-is, refused-with, seen-posted, place-at, place-past}
 use Rattle.receive.specs.declared.RxQueue.{RxQueue}
 use Rattle.receive.specs.declared.Taken.{Taken}
 use Rattle.receive.specs.Queue.{lentOk}
@@ -46,17 +46,25 @@ module _ (q : RxQueue) (ring list : List ℕ) where
   abbrev slots : List Slot
   slots = postedSlots (q .shared) ring list
 
+  -- the slots of a packet that a take sees are posted
+  pub look-posted : (p : List Slot) → look q ring list ≡ whole p → length p ≤ q .shared .posted
+  unfolding look
+  look-posted p = go (not (lentOk q (length ring) (length list)))
+    where
+      go : (b : Bool) → cond b (refuse 1) (scan (q .buffer) 0 slots) ≡ whole p → length p ≤ q .shared .posted
+      go true e = let z : _≡_ {A = ℕ} 0 1 = cc in absurd (omega arith)
+      go false e = seen-posted (q .shared) ring list (q .buffer) 0 p e
+
   by-scan : (p : List Slot) → lentOk q (length ring) (length list) ≡ true → scan (q .buffer) 0 slots ≡ whole p → HandedUp q ring list (takeBy (whole p) q)
   unfolding takeBy packetOf
   by-scan p a h =
       let b = seen-is (q .buffer) 0 slots p h in
       let few = has-few (q .buffer) 0 p (omega arith) (b .complete) in
-      let long : length slots ≡ length p + length (b .rest) = ap length (b .are) ∙ length-append p (b .rest) in
       let e : take (length p) slots ≡ p = ap (λ (x : List Slot). take (length p) x) (b .are) ∙ take-append-seam p (b .rest) in
       record {
         some = has-some (q .buffer) 0 p (b .complete);
         five = omega arith;
-        within = omega (arith, slots-long (q .shared) ring list);
+        within = seen-posted (q .shared) ring list (q .buffer) 0 p h;
         accepted = a;
         complete = rw e (b .complete);
         is = rw e;

@@ -23,7 +23,7 @@ use Rattle.receive.specs.Queue.{recordOk, lentOk}
 use Rattle.receive.specs.Take.{look, packetOf, takeBy, takeOf}
 use Rattle.receive.specs.Burst.{Made, takesFrom, stoppedBy, carried, handing, told, examinedBy}
 use Rattle.receive.proofs.Laws.{apart}
-use Rattle.receive.proofs.Takes.{take-refused}
+use Rattle.receive.proofs.Takes.{take-refused, look-posted}
 use Rattle.receive.proofs.Keeps.{advanced-ok, take-keeps}
 
 -- ---- one take
@@ -80,11 +80,11 @@ module _ (q : RxQueue) (ring list : List ℕ) where
     -- the next one is accepted again
     pub still-lent : lentOk (takeOf q ring list .queue) (length ring) (length list) ≡ true
     unfolding takeOf takeBy lentOk
-    still-lent = go (look q ring list)
+    still-lent = go (look q ring list) refl
       where
-        go : (l : Look) → lentOk (takeBy l q .queue) (length ring) (length list) ≡ true
-        go (refuse n) = ok
-        go (whole p) = let b = apart q (length ring) (length list) ok in rw (advanced-ok q (b .0) (length p)) (b .1)
+        go : (l : Look) → look q ring list ≡ l → lentOk (takeBy l q .queue) (length ring) (length list) ≡ true
+        go (refuse n) e = ok
+        go (whole p) e = let b = apart q (length ring) (length list) ok in rw (advanced-ok q (b .0) (length p) (look-posted q ring list p e)) (b .1)
 
     -- the walks of the code from here, by this take
     opened : (n : ℕ) → polls (q .buffer) ring list (suc n) (q .shared)

@@ -1,6 +1,6 @@
 -- Post (01, "Receiving"): its checks in their order, the record and the lent memory after it.
 -- Assumes nothing.
-use Prim.Native.Nat.{ℕ, _-_}
+use Prim.Native.Nat.{ℕ}
 use mathlib.Core.Path.{_≡_}
 use mathlib.Core.Bool.{not, cond}
 use mathlib.Core.List.{List, [], _∷_}
@@ -8,19 +8,19 @@ use lib.Dec.{eqb}
 use lib.ListN.{length, set}
 use Rattle.rules.specs.Rules.{Check, _when_, answerOf}
 use Rattle.rules.specs.Address.{addressWrong}
-use Rattle.ring.specs.Queue.{tailOf, grown}
+use Rattle.ring.specs.Queue.{tailOf, noRoom, grown}
 use Rattle.places.specs.Words.{Words}
 use Rattle.scan.specs.Slots.{storeWords}
 use Rattle.receive.specs.declared.RxQueue.{RxQueue}
 use Rattle.receive.specs.declared.Posted.{Posted}
 use Rattle.receive.specs.Queue.{lentOk, movedTo}
 
--- 1 the record or a slice's length is wrong, 2 the address is wrong, 3 posted = size - 1
+-- 1 the record or a slice's length is wrong, 2 the address is wrong, 3 there is no room for one slot more: posted = size - 1, or slots ever posted = 2^64 - 1
 abbrev pub postChecks : RxQueue → ℕ → ℕ → ℕ → List Check
 postChecks q ringLength listLength address =
     1 when not (lentOk q ringLength listLength)
     ∷ 2 when addressWrong address (q .buffer)
-    ∷ 3 when eqb (q .shared .posted) (q .shared .size - 1)
+    ∷ 3 when noRoom (q .shared) 1
     ∷ []
 
 unfoldable pub postAnswer : RxQueue → ℕ → ℕ → ℕ → ℕ
@@ -30,7 +30,7 @@ postAnswer q ringLength listLength address = answerOf (postChecks q ringLength l
 abbrev pub blank : ℕ → Words
 blank address = record { word0 = address; word1 = 0 }
 
--- one to posted
+-- one to posted, and to the slots ever posted
 abbrev pub oneMore : RxQueue → RxQueue
 oneMore q = movedTo q (grown (q .shared) 1)
 

@@ -39,7 +39,7 @@ movedTo q shared = record { shared = shared; buffer = q .buffer }
 abbrev pub emptyQueue : ℕ → ℕ → ℕ → RxQueue
 emptyQueue queue size buffer = record { shared = Ring.emptyQueue queue size; buffer = buffer }
 
--- a fresh queue: head 0 and posted 0; outside the lines, 1 and an all-zero record
+-- a fresh queue: head 0, posted 0 and both counts 0; outside the lines, 1 and an all-zero record
 unfoldable pub freshOf : ℕ → ℕ → ℕ → Fresh
 freshOf queue size buffer =
     cond (recordOk (emptyQueue queue size buffer))

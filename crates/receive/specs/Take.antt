@@ -49,7 +49,7 @@ noPacket =
       last = noWriteBack;
     }
 
--- head moves on by a count, posted falls by it
+-- head moves on by a count, posted falls by it, and so many slots more are handed back
 abbrev pub advanced : RxQueue → ℕ → RxQueue
 advanced q n = movedTo q (Ring.advanced (q .shared) n)
 

@@ -15,11 +15,7 @@ impl RxQueue {
             if rules::address_wrong(address, self.buffer as u64) {
                 2
             } else {
-                if self.shared.posted == self.shared.size - 1 {
-                    3
-                } else {
-                    0
-                }
+                if self.shared.no_room(1) { 3 } else { 0 }
             }
         } else {
             1

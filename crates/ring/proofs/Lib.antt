@@ -3,3 +3,4 @@ pub mod Stores
 pub mod Runs
 pub mod Rows
 pub mod Record
+pub mod Counts

@@ -1,67 +1,88 @@
 -- The shared part of a queue record: what its test says, what keeps it, whose the slots are, and what is asked of it.
 -- Assumes nothing.
-use Prim.Native.Nat.{ℕ, _+_, _-_, _^_, _<_}
+use Prim.Native.Nat.{ℕ, _+_, _-_, _^_, _≤_, _<_}
 use mathlib.Core.Path.{_≡_, refl}
 use mathlib.Core.Bool.{Bool, true, false, not, _&&_}
 use mathlib.Core.List.{[], _∷_}
 use native.Mathlib.Omega.{arith}
-use borrow.Author.Tests.{lt-ltb, le-ltb, ltb-true, leb-true}
-use lib.Dec.{leb, ltb}
+use borrow.Author.Tests.{lt-ltb, le-ltb, eq-eqb, ltb-true, leb-true, eqb-true}
+use lib.Dec.{leb, ltb, eqb}
 use Rattle.rules.specs.Rules.{inSteps, _when_, answerOf}
 use Rattle.rules.proofs.Tests.{both, steps-is}
 use Rattle.rules.proofs.Checks.{one-check}
 use Rattle.ring.specs.declared.Queue.{Queue}
 use Rattle.ring.specs.declared.Asked.{Asked}
 use Rattle.ring.specs.Slots.{distance}
-use Rattle.ring.specs.Sizes.{mostQueue, leastSize, mostSize, sizeStep, queueOk, placeOk, tailBits}
-use Rattle.ring.specs.Queue.{sharedOk, Shared, slotOf, tailOf, isDevices, emptyQueue, advanced, grown, askedOf}
+use Rattle.ring.specs.Sizes.{mostQueue, leastSize, mostSize, sizeStep, queueOk, placeOk, countsOk, tailBits}
+use Rattle.ring.specs.Queue.{everPosted, everReturned, sharedOk, Shared, slotOf, tailOf, isDevices, emptyQueue, advanced, grown, askedOf}
 use Rattle.ring.proofs.Steps.{slot-below, distance-slot, slot-distance}
 
 -- ---- what the test says, and what keeps it
 
--- moving on by any count keeps the lines
-pub moved-on : {q : Queue} → Shared q → (n : ℕ) → Shared (advanced q n)
-moved-on {q} s n =
+-- moving on by slots that are posted keeps the lines
+pub moved-on : {q : Queue} → Shared q → (n : ℕ) → n ≤ q .posted → Shared (advanced q n)
+moved-on {q} s n p =
     record {
       queue-high = s .queue-high;
       size-low = s .size-low;
       size-high = s .size-high;
       head-below = slot-below (q .head) (q .size) n (omega (arith, s .size-low));
       posted-below = omega (arith, s .posted-below);
+      counted = omega (arith, s .counted);
     }
 
 module _ (q : Queue) (ok : sharedOk q ≡ true) where
-  numbers-ok : queueOk (q .queue) (q .size) ≡ true
-  numbers-ok = both (queueOk (q .queue) (q .size)) (placeOk (q .size) (q .head) (q .posted)) ok .0
+  abbrev numbers : Bool
+  numbers = queueOk (q .queue) (q .size)
+
+  abbrev places : Bool
+  places = placeOk (q .size) (q .head) (q .posted)
+
+  abbrev counts : Bool
+  counts = countsOk (q .posted) (everPosted q) (everReturned q)
+
+  numbers-ok : numbers ≡ true
+  numbers-ok = both numbers places (both (numbers && places) counts ok .0) .0
 
   pub shared : Shared q
   shared =
+      let l = both (numbers && places) counts ok in
       let n = both (leb (q .queue) mostQueue) (inSteps leastSize mostSize sizeStep (q .size)) numbers-ok in
       let s = steps-is leastSize mostSize sizeStep (q .size) (n .1) in
-      let p = both (ltb (q .head) (q .size)) (ltb (q .posted) (q .size)) (both (queueOk (q .queue) (q .size)) (placeOk (q .size) (q .head) (q .posted)) ok .1) in
+      let p = both (ltb (q .head) (q .size)) (ltb (q .posted) (q .size)) (both numbers places (l .0) .1) in
       record {
         queue-high = leb-true _ _ (n .0);
         size-low = s .least;
         size-high = s .most;
         head-below = ltb-true _ _ (p .0);
         posted-below = ltb-true _ _ (p .1);
+        counted = eqb-true _ _ (l .1);
       }
 
-  -- another head and another posted, both below the size
-  moved : (head posted : ℕ) → head < q .size → posted < q .size → queueOk (q .queue) (q .size) && placeOk (q .size) head posted ≡ true
-  moved head posted h p = rw (numbers-ok, lt-ltb head (q .size) h, lt-ltb posted (q .size) p)
+  -- another record of the same numbers that keeps the lines as facts
+  again : (q′ : Queue) → queueOk (q′ .queue) (q′ .size) ≡ true → Shared q′ → sharedOk q′ ≡ true
+  again q′ e s = rw (e, lt-ltb _ _ (s .head-below), lt-ltb _ _ (s .posted-below), eq-eqb _ _ (s .counted))
 
-  pub advanced-keeps : (n : ℕ) → sharedOk (advanced q n) ≡ true
-  advanced-keeps n = let s = moved-on shared n in moved (slotOf q n) (q .posted - n) (s .head-below) (s .posted-below)
+  pub advanced-keeps : (n : ℕ) → n ≤ q .posted → sharedOk (advanced q n) ≡ true
+  advanced-keeps n p = again (advanced q n) numbers-ok (moved-on shared n p)
 
   pub grown-keeps : (n : ℕ) → q .posted + n < q .size → sharedOk (grown q n) ≡ true
-  grown-keeps n r = moved (q .head) (q .posted + n) (shared .head-below) r
+  grown-keeps n r =
+      again (grown q n) numbers-ok
+      (record {
+        queue-high = shared .queue-high;
+        size-low = shared .size-low;
+        size-high = shared .size-high;
+        head-below = shared .head-below;
+        posted-below = r;
+        counted = omega (arith, shared .counted);
+      })
 
 -- a fresh queue keeps the shared lines exactly if the numbers that it is asked for with keep theirs
 pub empty-ok : (queue size : ℕ) → sharedOk (emptyQueue queue size) ≡ queueOk queue size
 empty-ok queue size = go (queueOk queue size) refl
   where
-    go : (b : Bool) → queueOk queue size ≡ b → b && placeOk size 0 0 ≡ b
+    go : (b : Bool) → queueOk queue size ≡ b → (b && placeOk size 0 0) && true ≡ b
     go true e =
         let s = steps-is leastSize mostSize sizeStep size (both (leb queue mostQueue) (inSteps leastSize mostSize sizeStep size) e .1) in
         rw (lt-ltb 0 size (omega (arith, s .least)))

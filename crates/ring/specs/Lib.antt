@@ -2,4 +2,5 @@ pub mod Slots
 pub mod Memory
 pub mod Sizes
 pub mod Queue
+pub mod Counts
 pub mod Steps

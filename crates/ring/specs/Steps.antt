@@ -4,8 +4,9 @@ use Prim.Native.Nat.{ℕ, _+_, _*_, _≤_, _<_}
 use mathlib.Core.Path.{_≡_}
 use mathlib.Core.Bool.{Bool, true}
 use Rattle.ring.specs.declared.Queue.{Queue}
+use Rattle.ring.specs.Sizes.{mostCount}
 use Rattle.ring.specs.Slots.{slotAt, mostSlots}
-use Rattle.ring.specs.Queue.{Shared}
+use Rattle.ring.specs.Queue.{everPosted, Shared}
 
 -- what the step asks: head is a slot, and the distance is less than a lap
 pub record Step (head size k : ℕ) : Type 0 where
@@ -34,10 +35,11 @@ pub record Advance (q : Queue) (n : ℕ) : Type 0 where
   pub is : Shared q
   pub posted-all : n ≤ q .posted
 
--- what posting n slots more asks: there is room for them
+-- what posting n slots more asks: there is room for them, on the ring and in the count
 pub record Grow (q : Queue) (n : ℕ) : Type 0 where
   pub is : Shared q
   pub room : q .posted + n < q .size
+  pub count-room : everPosted q + n ≤ mostCount
 
 -- what a number asked of a record asks: where the record is judged to be accepted, it keeps the shared lines
 abbrev pub Judged : Queue → Bool → Type 0

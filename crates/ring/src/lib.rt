@@ -1,7 +1,8 @@
 // What every ring shares: the step from head to the slot at a distance, and the part of the queue record that the receive and the
 // transmit queue have in common.
 ghost use mathlib.Core.Path.{_≡_};
-ghost use Rattle.ring.specs.Queue.{Shared, sharedOk, tailOf, registerAt, emptyQueue, advanced, grown, askedOf};
+ghost use Rattle.ring.specs.Sizes.{countsOk};
+ghost use Rattle.ring.specs.Queue.{Shared, everPosted, everReturned, sharedOk, slotOf, tailOf, registerAt, noRoom, emptyQueue, advanced, grown, askedOf};
 ghost use Rattle.ring.specs.Steps.{SlotIs, Step, Advance, Grow, Judged};
 
 const QUEUE_MOST: usize = 3;
@@ -11,6 +12,9 @@ const SIZE_LEAST: usize = 32;
 const SIZE_MOST: usize = 4096;
 
 const SIZE_STEP: usize = 32;
+
+// The counts are 64-bit numbers.
+const COUNT_MOST: u64 = 0xffffffffffffffff;
 
 // A queue's tail register stands so many bytes after the one before.
 const REGISTER_STEP: usize = 4;
@@ -33,12 +37,14 @@ pub fn next(at: usize, size: usize) -> usize
     if next < size { next } else { 0 }
 }
 
-// The part of a queue record that both queues have.
+// The part of a queue record that both queues have. The two counts are of slots since the queue was fresh.
 pub struct Queue {
     pub queue: usize,
     pub size: usize,
     pub head: usize,
     pub posted: usize,
+    pub ever_posted: u64,
+    pub ever_returned: u64,
 }
 
 // A number asked of a record, 0 beside a refusal.
@@ -56,17 +62,31 @@ impl Queue {
             size,
             head: 0,
             posted: 0,
+            ever_posted: 0,
+            ever_returned: 0,
         }
     }
 
-    // Queue number, size, head and posted keep their lines.
+    // Posted and ever returned come to ever posted. The difference is taken only where it cannot wrap.
+    fn counts_ok(self) -> bool
+        ensures { λ r. ⌜ r ≡ countsOk (self .posted) (everPosted self) (everReturned self) ⌝ }
+    {
+        if self.ever_returned <= self.ever_posted {
+            self.posted as u64 == self.ever_posted - self.ever_returned
+        } else {
+            false
+        }
+    }
+
+    // Queue number, size, head, posted and the counts keep their lines.
     pub fn ok(self) -> bool
         ensures { λ r. ⌜ r ≡ sharedOk self ⌝ }
     {
-        ((self.queue <= QUEUE_MOST)
+        (((self.queue <= QUEUE_MOST)
             & (((SIZE_LEAST <= self.size) & (self.size <= SIZE_MOST))
                 & (self.size % SIZE_STEP == 0)))
-            & ((self.head < self.size) & (self.posted < self.size))
+            & ((self.head < self.size) & (self.posted < self.size)))
+            & self.counts_ok()
     }
 
     pub fn tail(self) -> usize
@@ -76,16 +96,27 @@ impl Queue {
         slot(self.head, self.size, self.posted)
     }
 
-    // Head moves on by n slots, and posted falls by them.
+    // Head moves on by n slots, and posted falls by them: they are handed back.
     pub fn advanced(self, n: usize) -> Queue
         requires { ⌜ Advance self n ⌝ }
+        ensures { λ r. ⌜ r ≡ advanced self n ⌝ }
+    {
+        self.moved_to(slot(self.head, self.size, n), n)
+    }
+
+    // The same, where the slot at distance n is known.
+    pub fn moved_to(self, head: usize, n: usize) -> Queue
+        requires { ⌜ Advance self n ⌝ }
+        requires { ⌜ head ≡ slotOf self n ⌝ }
         ensures { λ r. ⌜ r ≡ advanced self n ⌝ }
     {
         Queue {
             queue: self.queue,
             size: self.size,
-            head: slot(self.head, self.size, n),
+            head,
             posted: self.posted - n,
+            ever_posted: self.ever_posted,
+            ever_returned: self.ever_returned + n as u64,
         }
     }
 
@@ -99,7 +130,17 @@ impl Queue {
             size: self.size,
             head: self.head,
             posted: self.posted + n,
+            ever_posted: self.ever_posted + n as u64,
+            ever_returned: self.ever_returned,
         }
+    }
+
+    // So many slots more are too many, for the ring or for the count.
+    pub fn no_room(self, n: usize) -> bool
+        requires { ⌜ Shared self ⌝ }
+        ensures { λ r. ⌜ r ≡ noRoom self n ⌝ }
+    {
+        (self.size - 1 - self.posted < n) | (COUNT_MOST - self.ever_posted < n as u64)
     }
 
     // The tail of a record that has been judged.

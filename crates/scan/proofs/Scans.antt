@@ -7,7 +7,7 @@ use mathlib.Core.Bool.{Bool, true, false, not, _&&_, cond, true≢false}
 use mathlib.Core.List.{List, [], _∷_, _++_, map}
 use native.Mathlib.Omega.{arith}
 use borrow.Author.Tests.{not-true}
-use lib.ListN.{length, getD, take, length-map, List·getD-eq-default}
+use lib.ListN.{length, getD, take, length-map, List·getD-eq-default, length-append}
 use Rattle.rules.specs.Rules.{answerOf}
 use Rattle.rules.proofs.Tests.{both}
 use Rattle.ring.specs.declared.Queue.{Queue}
@@ -211,6 +211,12 @@ module _ (q : Queue) (ring list : List ℕ) where
   pub slots-long : length slots ≡ q .posted
   unfolding postedSlots
   slots-long = length-run (slotIn ring list) (q .size) (q .head) (q .posted)
+
+  -- the slots of a packet that is seen are posted
+  pub seen-posted : (buffer k : ℕ) (p : List Slot) → scan buffer k slots ≡ whole p → length p ≤ q .posted
+  seen-posted buffer k p h =
+      let b = seen-is buffer k slots p h in
+      omega (arith, slots-long, ap length (b .are), length-append p (b .rest))
 
   module _ (f : Slot → ℕ) (n : ℕ) (few : n ≤ packetSlots) (within : n ≤ q .posted) (i : ℕ) where
     abbrev told : List ℕ

@@ -69,8 +69,8 @@ add-k c = omega (arith, c .before .before .before .before .before .before .befor
 eop-requires : tie.Need-eop-requires Inv-loop μ-loop
 eop-requires c κs = search needs
 
-behind-requires : tie.Need-behind-requires Inv-loop μ-loop
-behind-requires c κs =
+moved-to-requires : tie.Need-moved-to-requires Inv-loop μ-loop
+moved-to-requires c κs =
     let i = c .before .before .before .before .before .before .before .before .before .before .before in
     (record { is = i .before .before .pre .is; posted-all = omega arith }, on-is (i .loop .inv .behind) (c .before .before .before .next .ensures) .is)
 
@@ -81,7 +81,7 @@ returns-2 c =
     let a = sym (c .before .before .before .before .before .before .slot-ok .ensures) ∙ c .before .before .before .before .before .if3 .taken in
     let e = sym (c .before .before .eop .ensures) ∙ c .before .if4 .taken in
     let f = whole-found _ _ _ _ _ _ (p .before .before .before .before .before .loop .inv) (omega arith) d a e in
-    λ list. rw (c .behind .ensures, c .before .before .before .length .ensures) (f list)
+    λ list. rw (c .moved-to .ensures, c .before .before .before .length .ensures) (f list)
 
 loop-less : tie.Need-loop-less Inv-loop μ-loop
 loop-less c = omega arith
@@ -134,7 +134,7 @@ packet-spec =
     add-total
     add-k
     eop-requires
-    behind-requires
+    moved-to-requires
     returns-2
     loop-less
     loop-again

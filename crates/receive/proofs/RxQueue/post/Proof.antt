@@ -1,7 +1,7 @@
 -- `RxQueue::post` meets its contract: a refusal leaves everything, and an acceptance gives what `put` and `one_more` ask.
 -- Assumes nothing.
 use borrow.Author.Tests.{eq-eqb, ne-eqb}
-use Rattle.receive.proofs.Laws.{done-lent, done-room}
+use Rattle.receive.proofs.Laws.{done-lent, done-grows}
 use mathlib.Core.Path.{sym, _∙_}
 use borrow.Author.Needs.{needs}
 use Rattle.receive.proofs.RxQueue.post.Statement.{statement}
@@ -17,9 +17,7 @@ returns c =
     record { result-is = rw (a, e); ring-is = rw (a, e); list-is = rw (a, e) }
 
 one-more-requires : tie.Need-one-more-requires
-one-more-requires c κs =
-    let e = sym (c .before .post-answer .ensures) ∙ c .if1 .left in
-    record { is = done-lent _ _ _ _ e .reads .is; room = done-room _ _ _ _ e }
+one-more-requires c κs = done-grows _ _ _ _ (sym (c .before .post-answer .ensures) ∙ c .if1 .left)
 
 put-requires : tie.Need-put-requires
 put-requires c κs = done-lent _ _ _ _ (sym (c .before .before .before .before .post-answer .ensures) ∙ c .before .before .before .if1 .left)

@@ -1,7 +1,6 @@
 -- `RxQueue::post_answer` meets its contract: each way through the code is one check of the list.
 -- Assumes nothing.
 use Rattle.receive.specs.Post.{postAnswer}
-use borrow.Author.Tests.{eq-eqb, ne-eqb}
 use native.Mathlib.Omega.{arith}
 use Rattle.receive.proofs.Laws.{lent, lent-buffer}
 use mathlib.Core.Path.{sym, _∙_}
@@ -16,8 +15,8 @@ address-wrong-requires : tie.Need-address-wrong-requires
 address-wrong-requires c κs =
     let b = lent-buffer (c .before .before .args .self) _ _ (sym (c .before .lent-ok .ensures) ∙ c .if1 .taken) in omega arith
 
-sub-if3 : tie.Need-sub-if3
-sub-if3 c = let l = lent _ _ _ (sym (c .before .before .before .before .lent-ok .ensures) ∙ c .before .before .before .if1 .taken) in omega arith
+no-room-requires : tie.Need-no-room-requires
+no-room-requires c κs = lent _ _ _ (sym (c .before .before .before .lent-ok .ensures) ∙ c .before .before .if1 .taken) .reads .is
 
 returns : tie.Need-returns
 unfolding postAnswer
@@ -26,12 +25,12 @@ returns c = rw (← c .before .before .before .lent-ok .ensures, c .before .befo
 returns-2 : tie.Need-returns-2
 unfolding postAnswer
 returns-2 c =
-    rw (← c .before .before .before .before .before .before .lent-ok .ensures, c .before .before .before .before .before .if1 .taken, ← c .before .before .before .before .address-wrong .ensures, c .before .before .before .if2 .left, eq-eqb _ _ (c .if3 .taken))
+    rw (← c .before .before .before .before .before .lent-ok .ensures, c .before .before .before .before .if1 .taken, ← c .before .before .before .address-wrong .ensures, c .before .before .if2 .left, ← c .before .no-room .ensures, c .if3 .taken)
 
 returns-3 : tie.Need-returns-3
 unfolding postAnswer
 returns-3 c =
-    rw (← c .before .before .before .before .before .before .lent-ok .ensures, c .before .before .before .before .before .if1 .taken, ← c .before .before .before .before .address-wrong .ensures, c .before .before .before .if2 .left, ne-eqb _ _ (c .if3 .left))
+    rw (← c .before .before .before .before .before .lent-ok .ensures, c .before .before .before .before .if1 .taken, ← c .before .before .before .address-wrong .ensures, c .before .before .if2 .left, ← c .before .no-room .ensures, c .if3 .left)
 
 returns-4 : tie.Need-returns-4
 unfolding postAnswer
@@ -40,4 +39,4 @@ returns-4 c = rw (← c .before .lent-ok .ensures, c .if1 .left)
 pub post-answer-spec : {M : Type 1} → statement M
 post-answer-spec =
     tie.close
-    (tie.spec lent-ok-requires address-wrong-requires sub-if3 returns returns-2 returns-3 returns-4)
+    (tie.spec lent-ok-requires address-wrong-requires no-room-requires returns returns-2 returns-3 returns-4)

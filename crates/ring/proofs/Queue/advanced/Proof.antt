@@ -7,11 +7,11 @@ use Rattle.ring.proofs.Queue.advanced.Tie as tie
 slot-requires : tie.Need-slot-requires
 slot-requires c κs = search needs
 
-sub-t4 : tie.Need-sub-t4
-sub-t4 c = search needs
+moved-to-requires : tie.Need-moved-to-requires
+moved-to-requires c κs = (c .before .pre, c .slot .ensures .is)
 
 returns : tie.Need-returns
-returns c = rw (c .before .slot .ensures .is)
+returns c = c .moved-to .ensures
 
 pub advanced-spec : {M : Type 1} → statement M
-advanced-spec = tie.close (tie.spec slot-requires sub-t4 returns)
+advanced-spec = tie.close (tie.spec slot-requires moved-to-requires returns)

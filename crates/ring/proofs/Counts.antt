@@ -1,0 +1,72 @@
+-- The counts of a queue record: the code's tests, which never wrap, are those of the definitions; and how the counts move.
+-- Assumes nothing.
+use Prim.Native.Nat.{ℕ, _+_, _-_, _≤_, _<_}
+use mathlib.Core.Path.{_≡_, refl, sym}
+use mathlib.Core.Bool.{Bool, true, false, _||_, true≢false}
+use native.Mathlib.Omega.{arith}
+use borrow.Author.Tests.{ltb-true, ltb-false, eq-eqb, ne-eqb, eqb-true, eqb-false}
+use lib.Dec.{ltb, eqb}
+use native.Mathlib.Nat.{add-zero}
+use Rattle.rules.proofs.Tests.{same, ltb-same}
+use Rattle.ring.specs.declared.Queue.{Queue}
+use Rattle.ring.specs.Sizes.{mostCount}
+use Rattle.ring.specs.Queue.{everPosted, everReturned, Shared, freeSlots, noRoom, advanced, grown}
+use Rattle.ring.specs.Steps.{Grow}
+use Rattle.ring.specs.Counts.{CountsMove}
+
+-- ---- the tests
+
+-- a difference that does not wrap, for a sum
+pub by-difference : (n all part : ℕ) → part ≤ all → eqb n (all - part) ≡ eqb (n + part) all
+by-difference n all part h =
+    same (eqb n (all - part)) (eqb (n + part) all)
+    (λ e. eq-eqb (n + part) all (omega (arith, eqb-true n (all - part) e)))
+    (λ e. ne-eqb (n + part) all (λ s. eqb-false n (all - part) e (omega arith)))
+
+pub would-wrap : (n all part : ℕ) → all < part → eqb (n + part) all ≡ false
+would-wrap n all part h = ne-eqb (n + part) all (λ e. omega arith)
+
+-- and what is left up to a most, for a sum that might pass it
+pub by-rest : (n most part : ℕ) → part ≤ most → ltb (most - part) n ≡ ltb most (part + n)
+by-rest n most part h = ltb-same (most - part) n most (part + n) (λ l. omega arith) (λ l. omega arith)
+
+-- one more is too many exactly if the most is reached
+at-most : (n most : ℕ) → n ≤ most → ltb most (n + 1) ≡ eqb n most
+at-most n most h =
+    same (ltb most (n + 1)) (eqb n most)
+    (λ e. eq-eqb n most (omega (arith, ltb-true most (n + 1) e)))
+    (λ e. ne-eqb n most (λ s. omega (arith, ltb-false most (n + 1) e)))
+
+neither : (a b : Bool) → a || b ≡ false → (a ≡ false) × (b ≡ false)
+neither true b e = absurd (true≢false e)
+neither false b e = (refl, e)
+
+-- where there is room, on the ring and in the count
+pub grows : (q : Queue) (n : ℕ) → Shared q → noRoom q n ≡ false → Grow q n
+grows q n s e =
+    let f = neither (ltb (freeSlots q) n) (ltb mostCount (everPosted q + n)) e in
+    record { is = s; room = omega (arith, ltb-false (freeSlots q) n (f .0), s .posted-below); count-room = ltb-false mostCount (everPosted q + n) (f .1) }
+
+-- there is no room for one slot more exactly if posted = size - 1, or slots ever posted = 2^64 - 1
+pub no-room-one : (q : Queue) → Shared q → everPosted q ≤ mostCount → noRoom q 1 ≡ eqb (q .posted) (q .size - 1) || eqb (everPosted q) mostCount
+no-room-one q s h =
+    let p : q .posted ≤ q .size - 1 = omega (arith, s .posted-below) in
+    rw (by-rest 1 (q .size - 1) (q .posted) p, at-most (q .posted) (q .size - 1) p, at-most (everPosted q) mostCount h)
+
+-- ---- how the counts move
+
+pub counts-stay : (q : Queue) → CountsMove q q 0 0
+counts-stay q = record { posted-more = sym (add-zero _); returned-more = sym (add-zero _) }
+
+pub counts-grown : (q : Queue) (n : ℕ) → CountsMove q (grown q n) n 0
+counts-grown q n = record { posted-more = refl; returned-more = sym (add-zero _) }
+
+pub counts-advanced : (q : Queue) (n : ℕ) → CountsMove q (advanced q n) 0 n
+counts-advanced q n = record { posted-more = sym (add-zero _); returned-more = refl }
+
+pub counts-on : {a b c : Queue} {n m n′ m′ : ℕ} → CountsMove a b n m → CountsMove b c n′ m′ → CountsMove a c (n + n′) (m + m′)
+counts-on f g = record { posted-more = omega (arith, f .posted-more, g .posted-more); returned-more = omega (arith, f .returned-more, g .returned-more) }
+
+-- equal counts mean equal posted, in two records that keep the lines
+pub same-posted : {a b : Queue} → Shared a → Shared b → everPosted b ≡ everPosted a → everReturned b ≡ everReturned a → b .posted ≡ a .posted
+same-posted s t e f = omega (arith, s .counted, t .counted)
