@@ -20,13 +20,17 @@ fn fill(ring: &mut [u64], size: usize) {
     }
 }
 
+// Ever posted moves with posted, so that the record stays right.
 fn with_posted(queue: RxQueue, posted: usize) -> RxQueue {
+    let ever_returned = queue.shared.ever_returned;
     RxQueue {
         shared: Queue {
             queue: queue.shared.queue,
             size: queue.shared.size,
             head: queue.shared.head,
             posted,
+            ever_posted: std::num::wrapping_add_u64(ever_returned, posted as u64),
+            ever_returned,
         },
         buffer: queue.buffer,
     }

@@ -25,11 +25,12 @@ pub fn start(size: usize) -> Run {
 pub fn end(run: Run, ring: &[u64]) -> u64 {
     let q = run.queue;
     let a = checksum::number(checksum::number(run.sum, q.shared.queue), q.shared.size);
-    let b = checksum::number(
-        checksum::number(checksum::number(a, q.shared.head), q.shared.posted),
-        q.buffer,
+    let b = checksum::number(checksum::number(a, q.shared.head), q.shared.posted);
+    let c = checksum::mix(
+        checksum::mix(b, q.shared.ever_posted),
+        q.shared.ever_returned,
     );
-    checksum::lent(b, ring)
+    checksum::lent(checksum::number(c, q.buffer), ring)
 }
 
 // A take; in an idle run a packet that was seen before.
