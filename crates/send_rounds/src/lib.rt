@@ -75,11 +75,12 @@ fn start(size: usize) -> Run {
 fn end(run: Run, ring: &[u64]) -> u64 {
     let q = run.queue;
     let a = checksum::number(checksum::number(run.sum, q.shared.queue), q.shared.size);
-    let b = checksum::number(
-        checksum::number(checksum::number(a, q.shared.head), q.shared.posted),
-        q.frame,
+    let b = checksum::number(checksum::number(a, q.shared.head), q.shared.posted);
+    let c = checksum::mix(
+        checksum::mix(b, q.shared.ever_posted),
+        q.shared.ever_returned,
     );
-    checksum::lent(b, ring)
+    checksum::lent(checksum::number(c, q.frame), ring)
 }
 
 fn send(
