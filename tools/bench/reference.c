@@ -15,6 +15,12 @@ static inline bool place_ok(size_t queue, size_t size, size_t head, size_t poste
     return queue <= QUEUE_MOST && size >= SIZE_LEAST && size <= SIZE_MOST && size % SIZE_STEP == 0 && head < size && posted < size;
 }
 
+/* posted + ever_returned = ever_posted; the difference is taken only where it cannot wrap */
+static inline bool counts_ok(size_t posted, uint64_t ever_posted, uint64_t ever_returned)
+{
+    return ever_returned <= ever_posted && ever_posted - ever_returned == posted;
+}
+
 /* the slot at distance k from head, less than a lap */
 static inline size_t slot(size_t head, size_t size, size_t k)
 {
@@ -33,7 +39,9 @@ enum { PACKET_SLOTS = 5, BUFFER_LEAST = 1024, BUFFER_MOST = 16256, BUFFER_STEP =
 enum family { FAMILY_UNKNOWN, FAMILY_MAC, FAMILY_ARP, FAMILY_IPV4, FAMILY_IPV6 };
 
 struct rx_queue {
-    size_t queue, size, head, posted, buffer;
+    size_t queue, size, head, posted;
+    uint64_t ever_posted, ever_returned;
+    size_t buffer;
 };
 
 struct write_back {
@@ -73,7 +81,7 @@ struct rx_burst {
 
 static inline bool rx_record_ok(struct rx_queue q)
 {
-    return place_ok(q.queue, q.size, q.head, q.posted) && q.buffer >= BUFFER_LEAST && q.buffer <= BUFFER_MOST && q.buffer % BUFFER_STEP == 0;
+    return place_ok(q.queue, q.size, q.head, q.posted) && counts_ok(q.posted, q.ever_posted, q.ever_returned) && q.buffer >= BUFFER_LEAST && q.buffer <= BUFFER_MOST && q.buffer % BUFFER_STEP == 0;
 }
 
 static inline bool rx_lent_ok(struct rx_queue q, size_t ring_length, size_t list_length)
@@ -83,7 +91,7 @@ static inline bool rx_lent_ok(struct rx_queue q, size_t ring_length, size_t list
 
 static struct rx_answer rx_fresh(size_t queue, size_t size, size_t buffer)
 {
-    struct rx_queue q = { queue, size, 0, 0, buffer };
+    struct rx_queue q = { .queue = queue, .size = size, .buffer = buffer };
     if (!rx_record_ok(q))
         return (struct rx_answer){ .answer = 1 };
     return (struct rx_answer){ 0, q };
@@ -95,13 +103,14 @@ static struct rx_answer rx_post(struct rx_queue q, uint64_t *restrict ring, size
         return (struct rx_answer){ 1, q };
     if (address_wrong(address, q.buffer))
         return (struct rx_answer){ 2, q };
-    if (q.posted == q.size - 1)
+    if (q.posted == q.size - 1 || q.ever_posted == UINT64_MAX)
         return (struct rx_answer){ 3, q };
     size_t tail = slot(q.head, q.size, q.posted);
     ring[2 * tail] = address;
     ring[2 * tail + 1] = 0;
     list[tail] = address;
     q.posted++;
+    q.ever_posted++;
     return (struct rx_answer){ 0, q };
 }
 
@@ -174,6 +183,7 @@ static struct rx_taken rx_take(struct rx_queue q, const uint64_t *ring, size_t r
             t.packet.count = k + 1;
             t.queue.head = at + 1 == q.size ? 0 : at + 1;
             t.queue.posted -= k + 1;
+            t.queue.ever_returned += k + 1;
             return t;
         }
         if (++at == q.size)
@@ -225,6 +235,7 @@ static struct rx_burst rx_burst(struct rx_queue q, const uint64_t *ring, size_t 
         out[3 * b.packets + 2] = total;
         b.queue.head = at;
         b.queue.posted -= k;
+        b.queue.ever_returned += k;
         b.packets++;
     }
     return b;
@@ -237,7 +248,9 @@ enum ip_kind { IP_NONE, IP_V6, IP_V4, IP_V4_CHECKSUM };
 enum l4_kind { L4_NONE, L4_TCP, L4_SCTP, L4_UDP };
 
 struct tx_queue {
-    size_t queue, size, head, posted, frame;
+    size_t queue, size, head, posted;
+    uint64_t ever_posted, ever_returned;
+    size_t frame;
 };
 
 struct tx_request {
@@ -269,7 +282,7 @@ struct tx_reclaimed {
 
 static inline bool tx_record_ok(struct tx_queue q)
 {
-    return place_ok(q.queue, q.size, q.head, q.posted) && q.frame >= FRAME_LEAST && q.frame <= FRAME_MOST;
+    return place_ok(q.queue, q.size, q.head, q.posted) && counts_ok(q.posted, q.ever_posted, q.ever_returned) && q.frame >= FRAME_LEAST && q.frame <= FRAME_MOST;
 }
 
 static inline bool tx_lent_ok(struct tx_queue q, size_t ring_length, size_t tokens_length, size_t counts_length)
@@ -279,7 +292,7 @@ static inline bool tx_lent_ok(struct tx_queue q, size_t ring_length, size_t toke
 
 static struct tx_answer tx_fresh(size_t queue, size_t size, size_t frame)
 {
-    struct tx_queue q = { queue, size, 0, 0, frame };
+    struct tx_queue q = { .queue = queue, .size = size, .frame = frame };
     if (!tx_record_ok(q))
         return (struct tx_answer){ .answer = 1 };
     return (struct tx_answer){ 0, q };
@@ -400,7 +413,7 @@ static struct tx_sent tx_send(struct tx_queue q, uint64_t *restrict ring, size_t
     if (answer != 0)
         return (struct tx_sent){ answer, q, 0 };
     size_t slots = n + r.segmented;
-    if (slots > q.size - 1 - q.posted)
+    if (slots > q.size - 1 - q.posted || slots > UINT64_MAX - q.ever_posted)
         return (struct tx_sent){ 3, q, 0 };
     size_t tail = slot(q.head, q.size, q.posted);
     tokens[tail] = token;
@@ -420,6 +433,7 @@ static struct tx_sent tx_send(struct tx_queue q, uint64_t *restrict ring, size_t
     ring[2 * tail] = addresses[n - 1];
     ring[2 * tail + 1] = alike | lengths[n - 1] << 34 | 0x30;
     q.posted += slots;
+    q.ever_posted += slots;
     return (struct tx_sent){ 0, q, slots };
 }
 
@@ -438,6 +452,7 @@ static struct tx_reclaimed tx_reclaim(struct tx_queue q, const uint64_t *ring, s
     uint64_t token = tokens[q.head];
     q.head = slot(q.head, q.size, count);
     q.posted -= count;
+    q.ever_returned += count;
     return (struct tx_reclaimed){ 0, q, token, count };
 }
 
@@ -561,7 +576,8 @@ static struct rx_run rx_start(size_t size)
 static uint64_t rx_end(struct rx_run run, const uint64_t *ring, size_t ring_length)
 {
     struct rx_queue q = run.queue;
-    return mix_list(mix(mix(mix(mix(mix(run.sum, q.queue), q.size), q.head), q.posted), q.buffer), ring, ring_length);
+    uint64_t sum = mix(mix(mix(mix(run.sum, q.queue), q.size), q.head), q.posted);
+    return mix_list(mix(mix(mix(sum, q.ever_posted), q.ever_returned), q.buffer), ring, ring_length);
 }
 
 static inline struct rx_run fill(struct rx_run run, uint64_t *restrict ring, size_t ring_length, uint64_t *restrict list, size_t list_length, uint64_t i, uint64_t word1, bool idle)
@@ -602,11 +618,12 @@ static void fill_ring(uint64_t *ring, size_t ring_length, size_t size)
         device_writes(ring, ring_length, at, (uint64_t)at << 32 | 0x123, last_word(at));
 }
 
-/* so many packets wait from head on, the first of them just written */
+/* so many packets wait from head on, the first of them just written; ever_posted moves with posted */
 static inline struct rx_queue with_packets(struct rx_queue q, size_t packets, uint64_t *ring, size_t ring_length, uint64_t i)
 {
     device_writes(ring, ring_length, q.head, i << 32 | 0x123, last_word(i));
     q.posted = packets;
+    q.ever_posted = q.ever_returned + packets;
     return q;
 }
 
@@ -685,7 +702,8 @@ static struct tx_run tx_start(size_t size)
 static uint64_t tx_end(struct tx_run run, const uint64_t *ring, size_t ring_length)
 {
     struct tx_queue q = run.queue;
-    return mix_list(mix(mix(mix(mix(mix(run.sum, q.queue), q.size), q.head), q.posted), q.frame), ring, ring_length);
+    uint64_t sum = mix(mix(mix(mix(run.sum, q.queue), q.size), q.head), q.posted);
+    return mix_list(mix(mix(mix(sum, q.ever_posted), q.ever_returned), q.frame), ring, ring_length);
 }
 
 static uint64_t tx_rounds(uint64_t *restrict ring, size_t ring_length, uint64_t *restrict tokens, size_t tokens_length, uint16_t *restrict counts, size_t counts_length, uint64_t *restrict addresses, size_t addresses_length, uint64_t *restrict lengths, size_t n, struct asked a)
