@@ -211,7 +211,7 @@ static struct rx_burst rx_burst(struct rx_queue q, const uint64_t *ring, size_t 
         do {
             if (k == b.queue.posted) {
                 b.answer = 4;
-                return b;
+                goto out;
             }
             uint64_t word1 = ring[2 * at + 1];
             size_t length = FIELD(word1, 38, 14);
@@ -219,11 +219,11 @@ static struct rx_burst rx_burst(struct rx_queue q, const uint64_t *ring, size_t 
             b.examined++;
             if (!(word1 & 1)) {
                 b.answer = 4;
-                return b;
+                goto out;
             }
             if (length > q.buffer || (length == 0 && (!last || k == 0)) || (!last && k == PACKET_SLOTS - 1)) {
                 b.answer = 5;
-                return b;
+                goto out;
             }
             total += length;
             k++;
@@ -235,9 +235,10 @@ static struct rx_burst rx_burst(struct rx_queue q, const uint64_t *ring, size_t 
         out[3 * b.packets + 2] = total;
         b.queue.head = at;
         b.queue.posted -= k;
-        b.queue.ever_returned += k;
         b.packets++;
     }
+out:
+    b.queue.ever_returned += q.posted - b.queue.posted;
     return b;
 }
 
@@ -622,8 +623,8 @@ static void fill_ring(uint64_t *ring, size_t ring_length, size_t size)
 static inline struct rx_queue with_packets(struct rx_queue q, size_t packets, uint64_t *ring, size_t ring_length, uint64_t i)
 {
     device_writes(ring, ring_length, q.head, i << 32 | 0x123, last_word(i));
+    q.ever_posted += packets - q.posted;
     q.posted = packets;
-    q.ever_posted = q.ever_returned + packets;
     return q;
 }
 

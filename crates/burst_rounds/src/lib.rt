@@ -20,17 +20,17 @@ fn fill(ring: &mut [u64], size: usize) {
     }
 }
 
-// Ever posted moves with posted, so that the record stays right.
+// Ever posted moves with posted, so that the record stays right, and by a difference, so that no compiler knows that it does.
 fn with_posted(queue: RxQueue, posted: usize) -> RxQueue {
-    let ever_returned = queue.shared.ever_returned;
+    let more = std::num::wrapping_sub_u64(posted as u64, queue.shared.posted as u64);
     RxQueue {
         shared: Queue {
             queue: queue.shared.queue,
             size: queue.shared.size,
             head: queue.shared.head,
             posted,
-            ever_posted: std::num::wrapping_add_u64(ever_returned, posted as u64),
-            ever_returned,
+            ever_posted: std::num::wrapping_add_u64(queue.shared.ever_posted, more),
+            ever_returned: queue.shared.ever_returned,
         },
         buffer: queue.buffer,
     }
