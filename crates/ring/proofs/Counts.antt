@@ -1,13 +1,13 @@
 -- The counts of a queue record: the code's tests, which never wrap, are those of the definitions; and how the counts move.
 -- Assumes nothing.
-use Prim.Native.Nat.{ℕ, _+_, _-_, _≤_, _<_}
-use mathlib.Core.Path.{_≡_, refl, sym}
-use mathlib.Core.Bool.{Bool, true, false, _||_, true≢false}
+use Prim.Native.Nat.{ℕ, _+_, _-_, _%_, _^_, _≤_, _<_}
+use mathlib.Core.Path.{_≡_, refl, sym, _∙_}
+use mathlib.Core.Bool.{Bool, true, false, _&&_, _||_, true≢false, false≢true}
 use native.Mathlib.Omega.{arith}
-use borrow.Author.Tests.{le-ltb, ltb-true, ltb-false, eq-eqb, ne-eqb, eqb-true, eqb-false}
-use lib.Dec.{ltb, eqb}
+use borrow.Author.Tests.{le-leb, leb-true, le-ltb, ltb-true, ltb-false, eq-eqb, ne-eqb, eqb-true, eqb-false}
+use lib.Dec.{leb, ltb, eqb}
 use native.Mathlib.Nat.{add-zero}
-use Rattle.rules.proofs.Tests.{same, ltb-same}
+use Rattle.rules.proofs.Tests.{both, and-both, same, ltb-same}
 use Rattle.ring.specs.declared.Queue.{Queue}
 use Rattle.ring.specs.Sizes.{mostCount}
 use Rattle.ring.specs.Queue.{everPosted, everReturned, Shared, freeSlots, noRoom, advanced, grown}
@@ -16,15 +16,14 @@ use Rattle.ring.specs.Counts.{CountsMove}
 
 -- ---- the tests
 
--- a difference that does not wrap, for a sum
-pub by-difference : (n all part : ℕ) → part ≤ all → eqb n (all - part) ≡ eqb (n + part) all
-by-difference n all part h =
-    same (eqb n (all - part)) (eqb (n + part) all)
-    (λ e. eq-eqb (n + part) all (omega (arith, eqb-true n (all - part) e)))
-    (λ e. ne-eqb (n + part) all (λ s. eqb-false n (all - part) e (omega arith)))
-
-pub would-wrap : (n all part : ℕ) → all < part → eqb (n + part) all ≡ false
-would-wrap n all part h = ne-eqb (n + part) all (λ e. omega arith)
+-- a sum that may wrap, beside the test that it did not, for a sum
+pub by-wrapped : (n all part : ℕ) → n ≤ mostCount → all ≤ mostCount → part ≤ mostCount → leb part all && eqb ((n + part) % 2 ^ 64) all ≡ eqb (n + part) all
+by-wrapped n all part f g h =
+    same (leb part all && eqb ((n + part) % 2 ^ 64) all) (eqb (n + part) all)
+    (λ e.
+    let b = both (leb part all) (eqb ((n + part) % 2 ^ 64) all) e in
+    eq-eqb (n + part) all (omega (arith, leb-true part all (b .0), eqb-true ((n + part) % 2 ^ 64) all (b .1))))
+    (λ e. ne-eqb (n + part) all (λ s. false≢true (sym e ∙ and-both (le-leb part all (omega arith)) (eq-eqb ((n + part) % 2 ^ 64) all (omega arith)))))
 
 -- and what is left up to a most, for a sum that might pass it
 pub by-rest : (n most part : ℕ) → part ≤ most → ltb (most - part) n ≡ ltb most (part + n)

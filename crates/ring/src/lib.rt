@@ -67,26 +67,26 @@ impl Queue {
         }
     }
 
-    // Posted and ever returned come to ever posted. The difference is taken only where it cannot wrap.
+    // Posted and ever returned come to ever posted. A sum that wraps is below ever returned.
     fn counts_ok(self) -> bool
         ensures { λ r. ⌜ r ≡ countsOk (self .posted) (everPosted self) (everReturned self) ⌝ }
     {
-        if self.ever_returned <= self.ever_posted {
-            self.posted as u64 == self.ever_posted - self.ever_returned
-        } else {
-            false
-        }
+        (self.ever_returned <= self.ever_posted)
+            & (std::num::wrapping_add_u64(self.posted as u64, self.ever_returned)
+                == self.ever_posted)
     }
 
     // Queue number, size, head, posted and the counts keep their lines.
     pub fn ok(self) -> bool
         ensures { λ r. ⌜ r ≡ sharedOk self ⌝ }
     {
-        (((self.queue <= QUEUE_MOST)
-            & (((SIZE_LEAST <= self.size) & (self.size <= SIZE_MOST))
-                & (self.size % SIZE_STEP == 0)))
-            & ((self.head < self.size) & (self.posted < self.size)))
-            & self.counts_ok()
+        if ((self.head < self.size) & (self.posted < self.size)) & self.counts_ok() {
+            (self.queue <= QUEUE_MOST)
+                & (((SIZE_LEAST <= self.size) & (self.size <= SIZE_MOST))
+                    & (self.size % SIZE_STEP == 0))
+        } else {
+            false
+        }
     }
 
     pub fn tail(self) -> usize

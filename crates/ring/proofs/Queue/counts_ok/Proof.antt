@@ -1,15 +1,18 @@
--- `Queue::counts_ok` meets its contract: the difference is the sum's, and where it would wrap the sum is too large.
+-- `Queue::counts_ok` meets its contract: a sum that wraps is below ever returned, so where it comes to ever posted it has not wrapped.
 -- Assumes nothing.
-use mathlib.Core.Path.{sym}
-use Rattle.ring.proofs.Counts.{by-difference, would-wrap}
+use native.Mathlib.Omega.{arith}
+use Rattle.ring.specs.Queue.{everPosted, everReturned}
+use Rattle.ring.proofs.Counts.{by-wrapped}
 use Rattle.ring.proofs.Queue.counts_ok.Statement.{statement}
 use Rattle.ring.proofs.Queue.counts_ok.Tie as tie
 
-returns : tie.Need-returns
-returns c = by-difference _ _ _ (c .before .if1 .taken)
+wrapping-add-u64-requires : tie.Need-wrapping-add-u64-requires
+wrapping-add-u64-requires c κs = tt
 
-returns-2 : tie.Need-returns-2
-returns-2 c = sym (would-wrap _ _ _ (c .if1 .left))
+returns : tie.Need-returns
+returns c =
+    let q = c .before .before .before .args .self in
+    rw (c .before .wrapping-add-u64 .ensures, by-wrapped (q .posted) (everPosted q) (everReturned q) (omega arith) (omega arith) (omega arith))
 
 pub counts-ok-spec : {M : Type 1} → statement M
-counts-ok-spec = tie.close (tie.spec returns returns-2)
+counts-ok-spec = tie.close (tie.spec wrapping-add-u64-requires returns)
