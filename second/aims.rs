@@ -67,12 +67,14 @@ pub fn generate(seed: u64, lines: usize) -> Vec<u8> {
     author.into_text()
 }
 
-/// One aim. A queue that answers 1 to everything is mostly started afresh before it.
+/// One aim. A queue that answers 1 to everything, or whose count is about to end, is mostly started
+/// afresh before it.
 pub fn any(author: &mut Author) {
-    if !author.sound(Direction::Receive) && !author.random.one_in(4) {
+    let spent = |author: &Author, queue| !author.sound(queue) || author.near_the_end(queue);
+    if spent(author, Direction::Receive) && !author.random.one_in(4) {
         receive_aims::fresh(author);
     }
-    if !author.sound(Direction::Transmit) && !author.random.one_in(4) {
+    if spent(author, Direction::Transmit) && !author.random.one_in(4) {
         transmit_aims::fresh(author);
     }
     let whole: u64 = AIMS.iter().map(|(weight, _)| weight).sum();

@@ -177,8 +177,7 @@ impl Bench {
             self.rx.record = record;
             self.seen.bits("post address", 64, address);
         }
-        let Record { head, posted, .. } = self.rx.record;
-        let _ = writeln!(out, "post {answer} {head} {posted}");
+        let _ = writeln!(out, "post {answer} {}", place(&self.rx.record));
     }
 
     fn take(&mut self, out: &mut String) {
@@ -213,9 +212,8 @@ impl Bench {
             self.rx.record = burst.record;
             (packets, examined) = (burst.packets, burst.examined);
         }
-        let Record { head, posted, .. } = self.rx.record;
-        let sum = sum(&self.out);
-        let _ = writeln!(out, "burst {answer} {head} {posted} {packets} {examined} {sum}");
+        let (place, sum) = (place(&self.rx.record), sum(&self.out));
+        let _ = writeln!(out, "burst {answer} {place} {packets} {examined} {sum}");
     }
 
     fn record(&self, direction: Direction) -> Record {
@@ -267,8 +265,7 @@ impl Bench {
             self.seen.sent(request);
         }
         let slots = judged.map(|(_, slots)| slots).unwrap_or(0);
-        let Record { head, posted, .. } = self.tx.record;
-        let _ = writeln!(out, "send {answer} {head} {posted} {slots}");
+        let _ = writeln!(out, "send {answer} {} {slots}", place(&self.tx.record));
     }
 
     fn reclaim(&mut self, out: &mut String) {
@@ -281,8 +278,7 @@ impl Bench {
             self.seen.bits("reclaim COUNT", 12, count);
         }
         let (token, count) = judged.map(|(_, token, count)| (token, count)).unwrap_or((0, 0));
-        let Record { head, posted, .. } = self.tx.record;
-        let _ = writeln!(out, "reclaim {answer} {head} {posted} {token} {count}");
+        let _ = writeln!(out, "reclaim {answer} {} {token} {count}", place(&self.tx.record));
     }
 
     fn interrupt(&mut self, request: &interrupt::Request, out: &mut String) {
@@ -297,15 +293,20 @@ impl Bench {
     }
 }
 
+/// Where a record stands, as every line prints it: head, posted and the two counts.
+pub fn place(record: &Record) -> String {
+    let Record { head, posted, ever_posted, ever_returned, .. } = *record;
+    format!("{head} {posted} {ever_posted} {ever_returned}")
+}
+
 fn fresh_line(call: &str, answer: u8, record: &Record, out: &mut String) {
-    let Record { queue, size, head, posted, limit } = *record;
-    let _ = writeln!(out, "{call} {answer} {queue} {size} {head} {posted} {limit}");
+    let Record { queue, size, limit, .. } = *record;
+    let _ = writeln!(out, "{call} {answer} {queue} {size} {} {limit}", place(record));
 }
 
 fn take_line(answer: u8, record: &Record, packet: &Packet, out: &mut String) {
-    let Record { head, posted, .. } = *record;
     let Packet { count, total, .. } = *packet;
-    let _ = write!(out, "take {answer} {head} {posted} {count} {total}");
+    let _ = write!(out, "take {answer} {} {count} {total}", place(record));
     for (address, length) in packet.addresses.iter().zip(&packet.lengths) {
         let _ = write!(out, " {address} {length}");
     }

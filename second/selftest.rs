@@ -222,10 +222,10 @@ fn script_lines(checks: &mut Checks) {
     checks.equal("bad numbers", said("\n\nx\n# x\n y"), "bad 3\nbad 5\n".to_string());
     checks.equal("no line end", said("rxsum"), "rxsum 0 0\n".to_string());
     checks.equal("carriage return", said("rxsum\r\n"), "bad 1\n".to_string());
-    let fresh = "rx 0 3 32 0 0 1024\n".to_string();
+    let fresh = "rx 0 3 32 0 0 0 0 1024\n".to_string();
     checks.equal("twenty digits", said("rx 3 00000000000000000032 1024"), fresh);
     checks.equal("twenty-one", said("rx 3 000000000000000000032 1024"), "bad 1\n".to_string());
-    let sum = "rxset 0 0 0 0 0 2 1\nrxpoke 0 1\nrxpoke 1 2\nrxlist 0 9\nrxsum";
+    let sum = "rxset 0 0 0 0 0 0 0 2 1\nrxpoke 0 1\nrxpoke 1 2\nrxlist 0 9\nrxsum";
     checks.equal("sum", said(sum), "rxsum 130 9\n".to_string());
 }
 
