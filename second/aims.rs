@@ -3,12 +3,12 @@
 use crate::author::Author;
 use crate::interrupt::{LEAVE, MOST_INTERVAL, OFF, ON};
 use crate::record::Direction;
-use crate::{bad_lines, burst_aims, receive_aims, transmit_aims};
+use crate::{bad_lines, burst_aims, count_aims, receive_aims, transmit_aims};
 
 type Aim = fn(&mut Author);
 
 /// How often each aim is taken, against the others.
-const AIMS: [(u64, Aim); 31] = [
+const AIMS: [(u64, Aim); 35] = [
     (6, receive_aims::fresh),
     (20, receive_aims::refused_fresh),
     (20, receive_aims::post),
@@ -24,6 +24,8 @@ const AIMS: [(u64, Aim); 31] = [
     (20, burst_aims::refused),
     (12, burst_aims::traffic),
     (10, burst_aims::write),
+    (20, count_aims::receive_disagrees),
+    (12, count_aims::last_posts),
     (6, transmit_aims::fresh),
     (20, transmit_aims::refused_fresh),
     (40, transmit_aims::plain),
@@ -38,6 +40,8 @@ const AIMS: [(u64, Aim); 31] = [
     (30, transmit_aims::damaged),
     (30, transmit_aims::look),
     (6, transmit_aims::scribble),
+    (20, count_aims::transmit_disagrees),
+    (20, count_aims::last_sends),
     (120, interrupt),
     (60, bad_lines::any),
 ];

@@ -68,8 +68,11 @@ impl Random {
         let returned = match self.below(8) {
             0 => 0,
             1 => self.any(),
-            // a count soon goes past a power of two
-            2 => (1u64 << self.below(64)).saturating_sub(self.below(posted.clamp(1, 40) + 8)),
+            // a count soon goes past a power of two, mostly past 32 bits
+            2 => {
+                let power = 1u64 << if self.one_in(3) { self.below(64) } else { 32 };
+                power.saturating_sub(self.below(posted.clamp(1, 40) + 8))
+            }
             // and here past its end
             3 => MOST_EVER - posted.min(MOST_EVER / 2) - self.below(40),
             _ => self.below(1 << 20),
@@ -164,16 +167,9 @@ impl Author {
         self.say(format!("txset {queue} {size} {place} {limit} {ring} {tokens} {counts}"));
     }
 
-    fn record(&self, direction: Direction) -> Record {
-        match direction {
-            Direction::Receive => self.bench.rx.record,
-            Direction::Transmit => self.bench.tx.record,
-        }
-    }
-
     /// Whether a post, or a send of some pieces, is soon refused for its count alone.
     pub fn near_the_end(&self, direction: Direction) -> bool {
-        self.record(direction).count_room() < 64
+        self.bench.record(direction).count_room() < 64
     }
 
     /// Whether calls on this queue get past answer 1.
@@ -183,7 +179,7 @@ impl Author {
             Direction::Receive => (rx.lent_ring, [rx.lent_list, rx.lent_list]),
             Direction::Transmit => (tx.lent_ring, [tx.lent_tokens, tx.lent_counts]),
         };
-        let record = self.record(direction);
+        let record = self.bench.record(direction);
         let size = record.size as usize;
         // the size is small once the record is judged
         record.judge(direction).is_ok() && ring == 2 * size && lists == [size, size]

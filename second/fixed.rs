@@ -2,7 +2,7 @@
 
 use crate::author::Author;
 use crate::script::LONGEST_LINE;
-use crate::{aims, bad_lines, fixed_burst, fixed_receive, fixed_transmit};
+use crate::{aims, bad_lines, fixed_burst, fixed_counts, fixed_receive, fixed_transmit};
 
 /// Random lines at the end, from a seed of their own.
 const RANDOM_LINES: usize = 4_000;
@@ -21,6 +21,7 @@ pub fn script() -> Vec<u8> {
     fixed_receive::all(&mut author);
     fixed_burst::all(&mut author);
     fixed_transmit::all(&mut author);
+    fixed_counts::all(&mut author);
     bad(&mut author);
     author.say("# random lines");
     let end = author.lines() + RANDOM_LINES;

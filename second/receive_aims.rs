@@ -245,7 +245,7 @@ pub fn damaged(author: &mut Author) {
     all_calls(author);
 }
 
-fn all_calls(author: &mut Author) {
+pub fn all_calls(author: &mut Author) {
     let address = author.random.address(1024);
     author.say("rxtail");
     author.say("rxreg");

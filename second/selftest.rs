@@ -1,5 +1,5 @@
-//! The program's own checks: the paper's examples, answer 8 against a count byte by byte, and the
-//! burst's.
+//! The program's own checks: the paper's examples, answer 8 against a count byte by byte, and those
+//! of the burst and of the counts.
 
 use crate::author::Random;
 use crate::interrupt;
@@ -8,7 +8,7 @@ use crate::receive::{self, FIELD_NAMES};
 use crate::record::{bits, Direction, Record};
 use crate::segments;
 use crate::transmit::{self, Lent, Send};
-use crate::{aims, answers, burst_selftest, compare, fixed};
+use crate::{aims, answers, burst_selftest, compare, count_selftest, fixed};
 use std::process::exit;
 
 pub struct Checks {
@@ -36,6 +36,7 @@ pub fn run() {
     touched_twice(&mut checks);
     read_back(&mut checks);
     burst_selftest::all(&mut checks);
+    count_selftest::all(&mut checks);
     script_lines(&mut checks);
     scripts(&mut checks);
     println!("selftest: {} checks, {} failed", checks.made, checks.failed);

@@ -31,7 +31,7 @@ pub const NO_ROOM_SEGMENTED: [&str; 3] =
     ["no room, segmented", "no count room, segmented", "no room and no count room, segmented"];
 
 /// A send: token, offload request and pieces. `ip` and `l4` are the codes of IIPT and L4T.
-#[derive(Clone, Debug, Default)]
+#[derive(Clone, Debug, Default, PartialEq, Eq)]
 pub struct Send {
     pub token: u64,
     pub ip: u64,

@@ -38,7 +38,7 @@ pub fn refused_fresh(author: &mut Author) {
     author.say_padded(&format!("tx {queue} {size} {frame}"));
 }
 
-fn frame(author: &Author) -> u64 {
+pub fn frame(author: &Author) -> u64 {
     author.bench.tx.record.limit.max(FRAME.lower).min(FRAME.upper)
 }
 
@@ -246,7 +246,7 @@ pub fn muddled(author: &mut Author) {
 }
 
 /// The device marks the oldest packet as done.
-fn mark_oldest(author: &mut Author) {
+pub fn mark_oldest(author: &mut Author) {
     let tx = &author.bench.tx;
     if !author.sound(Direction::Transmit) || tx.record.posted == 0 {
         return;
@@ -366,7 +366,7 @@ pub fn damaged(author: &mut Author) {
     all_calls(author);
 }
 
-fn all_calls(author: &mut Author) {
+pub fn all_calls(author: &mut Author) {
     let send = layouts::plain(&mut author.random, 1518);
     author.say("txtail");
     author.say("txreg");
