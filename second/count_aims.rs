@@ -5,7 +5,7 @@ use crate::author::{Author, Random};
 use crate::burst_aims::take_or_poll;
 use crate::layouts;
 use crate::receive_aims::{self, device_packet};
-use crate::record::{Direction, Record, MOST_EVER};
+use crate::record::{Direction, Record};
 use crate::transmit_aims::{self, mark_oldest};
 
 /// Counts that mostly disagree with posted, from ones that agree.
@@ -20,7 +20,7 @@ fn disagreeing(random: &mut Random, record: Record) -> Record {
         5 => (ever_posted, ever_posted.saturating_add(random.between(1, 40))),
         // a difference that wraps round comes to posted
         6 => {
-            let past = random.below(posted.clamp(1, MOST_EVER - 1));
+            let past = random.below(posted.max(1));
             (past, past.wrapping_sub(posted))
         }
         // a difference cut to so many bits comes to posted
@@ -51,12 +51,6 @@ pub fn transmit_disagrees(author: &mut Author) {
     transmit_aims::all_calls(author);
 }
 
-/// The record with counts that have room for so many slots.
-fn with_count_room(record: Record, room: u64) -> Record {
-    let ever_posted = MOST_EVER - room;
-    Record { ever_posted, ever_returned: ever_posted - record.posted, ..record }
-}
-
 /// The last slots that the count lets be posted, and the packets that still come in them.
 pub fn last_posts(author: &mut Author) {
     if !author.sound(Direction::Receive) {
@@ -66,7 +60,7 @@ pub fn last_posts(author: &mut Author) {
     let room = random.below(5);
     let record = author.bench.rx.record;
     let posted = random.pick(&[record.posted, record.posted, 0, record.size - 2, record.size - 1]);
-    author.rxset(with_count_room(record.with_posted(posted), room));
+    author.rxset(record.with_posted(posted).with_count_room(room));
     for _ in 0..=room {
         let address = author.random.address(record.limit);
         author.say(format!("post {address}"));
@@ -97,7 +91,7 @@ pub fn last_sends(author: &mut Author) {
     let room = random.pick(&[0, slots - 1, slots - 1, slots, slots, slots + 1, 2 * slots]);
     let full = (record.size - 1).saturating_sub(random.pick(&[0, slots - 1, slots]));
     let posted = random.pick(&[record.posted, 0, full, full]);
-    author.txset(with_count_room(record.with_posted(posted), room));
+    author.txset(record.with_posted(posted).with_count_room(room));
     if posted == full {
         author.say(format!("txcount {} {}", record.head, posted.min(slots)));
     }

@@ -132,10 +132,10 @@ fn last_posts(checks: &mut Checks) {
 
 /// A plain send of one slot and a segmented one of three, with count room for two, three and four.
 fn last_sends(checks: &mut Checks) {
-    for (room, three) in [(2, 3), (3, 0), (4, 0)] {
+    for (room, answer) in [(2, 3), (3, 0), (4, 0)] {
         let ever = MOST_EVER - room;
         let set = format!("txset 0 32 4 0 {ever} {ever} 1518 64 32 32");
-        let wanted = match three {
+        let wanted = match answer {
             0 => format!("send 0 4 3 {} {ever} 3\n", ever + 3),
             _ => format!("send 3 4 0 {ever} {ever} 0\n"),
         };

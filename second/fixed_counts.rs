@@ -35,7 +35,7 @@ fn transmit(head: u64, counted: Record) -> Record {
 
 /// So many slots posted, and room in the count for so many more.
 fn with_count_room(posted: u64, room: u64) -> Record {
-    Record::counted(MOST_EVER - room - posted, posted)
+    Record::counted(0, posted).with_count_room(room)
 }
 
 /// Posted and counts that agree, and each way not to: by one on both sides, with the counts

@@ -185,6 +185,12 @@ impl Record {
         Record { queue, size, head, limit, ..Record::counted(self.ever_returned, posted) }
     }
 
+    /// The record with counts that have room for so many slots more.
+    pub fn with_count_room(&self, room: u64) -> Record {
+        let ever_posted = MOST_EVER - room;
+        Record { ever_posted, ever_returned: ever_posted - self.posted, ..*self }
+    }
+
     pub fn tail_value(&self, direction: Direction) -> Judged<u64> {
         self.judge(direction)?;
         Ok(self.tail())
