@@ -4,7 +4,7 @@ use Prim.Native.Nat.{ℕ, _+_, _-_, _≤_, _<_}
 use mathlib.Core.Path.{_≡_, refl, sym}
 use mathlib.Core.Bool.{Bool, true, false, _||_, true≢false}
 use native.Mathlib.Omega.{arith}
-use borrow.Author.Tests.{ltb-true, ltb-false, eq-eqb, ne-eqb, eqb-true, eqb-false}
+use borrow.Author.Tests.{le-ltb, ltb-true, ltb-false, eq-eqb, ne-eqb, eqb-true, eqb-false}
 use lib.Dec.{ltb, eqb}
 use native.Mathlib.Nat.{add-zero}
 use Rattle.rules.proofs.Tests.{same, ltb-same}
@@ -46,6 +46,9 @@ pub grows : (q : Queue) (n : ℕ) → Shared q → noRoom q n ≡ false → Grow
 grows q n s e =
     let f = neither (ltb (freeSlots q) n) (ltb mostCount (everPosted q + n)) e in
     record { is = s; room = omega (arith, ltb-false (freeSlots q) n (f .0), s .posted-below); count-room = ltb-false mostCount (everPosted q + n) (f .1) }
+
+pub has-room : (q : Queue) (n : ℕ) → n ≤ freeSlots q → everPosted q + n ≤ mostCount → noRoom q n ≡ false
+has-room q n r c = rw (le-ltb (freeSlots q) n r, le-ltb mostCount (everPosted q + n) c)
 
 -- there is no room for one slot more exactly if posted = size - 1, or slots ever posted = 2^64 - 1
 pub no-room-one : (q : Queue) → Shared q → everPosted q ≤ mostCount → noRoom q 1 ≡ eqb (q .posted) (q .size - 1) || eqb (everPosted q) mostCount

@@ -1,24 +1,26 @@
 -- Exact causes: each number is answered exactly if its cause holds and no earlier one does (`Answers` of rules, both ways). A send
 -- refused with 3 is accepted once there are slots enough, and 8 is no matter of a plain send.
 -- Assumes nothing.
-use Prim.Native.Nat.{ℕ, zero, suc, _≤_, _<_}
+use Prim.Native.Nat.{ℕ, zero, suc, _+_, _≤_, _<_}
 use mathlib.Core.Path.{_≡_, refl, ap, _∙_}
 use mathlib.Core.Logic.{_≢_}
 use mathlib.Core.Bool.{Bool, true, false, not, _&&_}
 use mathlib.Core.List.{List, [], _∷_}
 use native.Mathlib.Omega.{arith}
-use borrow.Author.Tests.{le-ltb, not-false}
+use borrow.Author.Tests.{not-false}
 use Rattle.rules.specs.Rules.{Check, _when_, answerOf, nth, Answers}
 use Rattle.rules.proofs.Checks.{has-cause, is-answered, one-check, passed, passes}
-use Rattle.ring.specs.Sizes.{queueOk}
+use Rattle.ring.specs.Sizes.{queueOk, mostCount}
+use Rattle.ring.specs.Queue.{everPosted, freeSlots}
 use Rattle.ring.proofs.Record.{empty-ok}
+use Rattle.ring.proofs.Counts.{has-room}
 use Rattle.segments.specs.Touch.{mostTouched, touched}
 use Rattle.request.specs.declared.Request.{Request}
 use Rattle.packet.proofs.Causes.{plain-touches}
 use Rattle.transmit.specs.declared.TxQueue.{TxQueue}
 use Rattle.transmit.specs.declared.Fresh.{Fresh}
 use Rattle.transmit.specs.Queue.{frameOk, recordOk, emptyQueue, freshOf}
-use Rattle.transmit.specs.Send.{freeSlots, slotsTaken, sendChecks, sendAnswer}
+use Rattle.transmit.specs.Send.{slotsTaken, sendChecks, sendAnswer}
 use Rattle.transmit.specs.Reclaim.{reclaimChecks, reclaimAnswer}
 use Rattle.transmit.proofs.Laws.{lent-same}
 
@@ -73,8 +75,10 @@ module _ (q : TxQueue) (ringLength tokensLength countsLength : ℕ) (addresses l
   by-last (suc (suc (suc (suc (suc zero))))) a = a .none-before
   by-last (suc (suc (suc (suc (suc (suc i)))))) a = absurd (omega (arith, a .within-list))
 
-  -- retry: refused with 3, it gets 0 on any accepted record of the same size and frame whose free slots reach what it needs
-  module _ (q′ : TxQueue) (ok : recordOk q′ ≡ true) (same-size : q′ .shared .size ≡ q .shared .size) (same-frame : q′ .frame ≡ q .frame) (room : slotsTaken request lengths ≤ freeSlots q′) where
+  -- retry: refused with 3, it gets 0 on any accepted record of the same size and frame whose free slots reach what it needs, and whose count has room
+  -- for it
+  module _ (q′ : TxQueue) (ok : recordOk q′ ≡ true) (same-size : q′ .shared .size ≡ q .shared .size) (same-frame : q′ .frame ≡ q .frame)
+      (room : slotsTaken request lengths ≤ freeSlots (q′ .shared)) (count-room : everPosted (q′ .shared) + slotsTaken request lengths ≤ mostCount) where
     abbrev now-asked : List Check
     now-asked = sendChecks q′ ringLength tokensLength countsLength addresses lengths request
 
@@ -84,7 +88,7 @@ module _ (q : TxQueue) (ringLength tokensLength countsLength : ℕ) (addresses l
     all-pass before (suc (suc zero)) = before 2 (omega arith)
     all-pass before (suc (suc (suc zero))) = rw same-frame (before 3 (omega arith))
     all-pass before (suc (suc (suc (suc zero)))) = before 4 (omega arith)
-    all-pass before (suc (suc (suc (suc (suc zero))))) = le-ltb _ _ room
+    all-pass before (suc (suc (suc (suc (suc zero))))) = has-room (q′ .shared) (slotsTaken request lengths) room count-room
     all-pass before (suc (suc (suc (suc (suc (suc j)))))) = refl
 
     pub retry : sendAnswer q ringLength tokensLength countsLength addresses lengths request ≡ 3 → sendAnswer q′ ringLength tokensLength countsLength addresses lengths request ≡ 0

@@ -30,7 +30,7 @@ use Rattle.transmit.specs.declared.Reclaimed.{Reclaimed}
 use Rattle.transmit.specs.Queue.{recordOk, lentOk, movedTo, emptyQueue, freshOf}
 use Rattle.transmit.specs.Send.{slotsTaken, sendDone, sendRefused, answerTo, sendOf, ringAfter, tokensAfter, countsAfter, Unchanged, Stays}
 use Rattle.transmit.specs.Reclaim.{reclaimDone, reclaimRefused, tokenAt, reclaimAnswer, reclaimOf}
-use Rattle.transmit.proofs.Laws.{lines, kept, lent-record, lent-same, sendable}
+use Rattle.transmit.proofs.Laws.{lines, kept, lent-record, lent-same, sendable, reclaimable}
 
 -- ---- accepted again
 
@@ -66,7 +66,7 @@ module _ (q : TxQueue) (ok : recordOk q ≡ true) where
       go true e =
           let s = sendable q (length ring) (length tokens) (length counts) addresses lengths request (eqb-true answer 0 e) in
           moved (grown (q .shared) (slotsTaken request lengths))
-          (grown-keeps (q .shared) (lines q ok .0) (slotsTaken request lengths) (omega (arith, s .room, kept q ok .shared-is)))
+          (grown-keeps (q .shared) (lines q ok .0) (slotsTaken request lengths) (s .grow .room))
       go false e = ok
 
   pub reclaim-keeps : (ring tokens counts : List ℕ) → recordOk (reclaimOf q ring tokens counts .queue) ≡ true
@@ -83,7 +83,7 @@ module _ (q : TxQueue) (ok : recordOk q ≡ true) where
       given b = cond b (reclaimDone q (tokenAt q tokens) count) (reclaimRefused q answer)
 
       go : (b : Bool) → eqb answer 0 ≡ b → recordOk (given b .queue) ≡ true
-      go true e = moved (advanced (q .shared) count) (advanced-keeps (q .shared) (lines q ok .0) count)
+      go true e = moved (advanced (q .shared) count) (advanced-keeps (q .shared) (lines q ok .0) count (reclaimable q ring tokens counts (eqb-true answer 0 e) .count-is .most))
       go false e = ok
 
 either-long : (b : Bool) (xs ys : List ℕ) → length xs ≡ length ys → length (cond b xs ys) ≡ length ys
@@ -115,7 +115,7 @@ module _ (q : TxQueue) (ring tokens counts addresses lengths : List ℕ) (reques
       go true e =
           let s = sendable q (length ring) (length tokens) (length counts) addresses lengths request (eqb-true answer 0 e) in
           let free : (j : ℕ) → j < slotsTaken request lengths → slotOf (q .shared) k ≢ slotAt (tailOf (q .shared)) (q .shared .size) j = λ j h e.
-          apart (q .shared .head) (q .shared .size) k (q .shared .posted + j) l (omega (arith, s .room, s .lent-is .is .shared-is)) (λ d. ⊎-elim (λ a. omega arith) (λ a. omega arith) out)
+          apart (q .shared .head) (q .shared .size) k (q .shared .posted + j) l (omega (arith, s .grow .room)) (λ d. ⊎-elim (λ a. omega arith) (λ a. omega arith) out)
           (e ∙ slot-on (q .shared .head) (q .shared .size) (q .shared .posted) j) in
           let tail : slotOf (q .shared) k ≢ tailOf (q .shared) = apart (q .shared .head) (q .shared .size) k (q .shared .posted) l (omega (arith, s .lent-is .is .shared-is)) (λ d. ⊎-elim (λ a. omega arith) (λ a. omega (arith, s .own .some, slots-are request (length lengths))) out) in
           record {

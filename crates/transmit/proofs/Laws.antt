@@ -5,15 +5,17 @@ use mathlib.Core.Path.{_≡_}
 use mathlib.Core.Bool.{true, _&&_}
 use mathlib.Core.List.{List, [], _∷_}
 use native.Mathlib.Omega.{arith}
-use borrow.Author.Tests.{eqb-true, ltb-false, not-false}
-use lib.Dec.{ltb, eqb}
+use borrow.Author.Tests.{eqb-true, not-false}
+use lib.Dec.{eqb}
 use lib.ListN.{length}
 use Rattle.rules.specs.Rules.{_when_, answerOf}
 use Rattle.rules.proofs.Tests.{both, within-is}
 use Rattle.rules.proofs.Checks.{passed, first-pass}
 use Rattle.ring.specs.Sizes.{tailBits}
-use Rattle.ring.specs.Queue.{sharedOk}
+use Rattle.ring.specs.Queue.{sharedOk, noRoom}
+use Rattle.ring.specs.Steps.{Grow}
 use Rattle.ring.proofs.Record.{shared, tail-fits, asked-below}
+use Rattle.ring.proofs.Counts.{grows}
 use Rattle.request.specs.declared.Request.{Request}
 use Rattle.packet.specs.Packet.{packetChecks}
 use Rattle.packet.specs.Accepted.{Accepted}
@@ -22,7 +24,7 @@ use Rattle.done.proofs.Laws.{Counted, counted}
 use Rattle.transmit.specs.declared.TxQueue.{TxQueue}
 use Rattle.transmit.specs.Queue.{leastFrame, mostFrame, frameOk, recordOk, lentOk, tailValueOf}
 use Rattle.transmit.specs.Steps.{Kept, Lent}
-use Rattle.transmit.specs.Send.{freeSlots, slotsTaken, sendChecks, sendAnswer}
+use Rattle.transmit.specs.Send.{slotsTaken, sendChecks, sendAnswer}
 use Rattle.transmit.specs.Reclaim.{reclaimChecks, reclaimAnswer}
 
 -- the two parts of the test
@@ -66,15 +68,16 @@ module _ (q : TxQueue) (ringLength tokensLength countsLength : ℕ) (addresses l
     pub lent-ok : lentOk q ringLength tokensLength countsLength ≡ true
     pub lent-is : Lent q ringLength tokensLength countsLength
     pub own : Accepted addresses lengths (q .frame) request
-    pub room : slotsTaken request lengths ≤ freeSlots q
+    pub grow : Grow (q .shared) (slotsTaken request lengths)
 
   pub sendable : sendAnswer q ringLength tokensLength countsLength addresses lengths request ≡ 0 → Sendable
   unfolding sendAnswer
   sendable e =
       let p = passed (sendChecks q ringLength tokensLength countsLength addresses lengths request) tt e in
       let l : lentOk q ringLength tokensLength countsLength ≡ true = not-false _ (p 0) in
-      let own : answerOf (packetChecks addresses lengths (q .frame) request) ≡ 0 = first-pass (packetChecks addresses lengths (q .frame) request) (3 when ltb (freeSlots q) (slotsTaken request lengths) ∷ []) tt (rw l at e) in
-      record { lent-ok = l; lent-is = lent q ringLength tokensLength countsLength l; own = accepted addresses lengths (q .frame) request own; room = ltb-false (freeSlots q) (slotsTaken request lengths) (p 5) }
+      let own : answerOf (packetChecks addresses lengths (q .frame) request) ≡ 0 = first-pass (packetChecks addresses lengths (q .frame) request) (3 when noRoom (q .shared) (slotsTaken request lengths) ∷ []) tt (rw l at e) in
+      let lent-is = lent q ringLength tokensLength countsLength l in
+      record { lent-ok = l; lent-is = lent-is; own = accepted addresses lengths (q .frame) request own; grow = grows (q .shared) (slotsTaken request lengths) (lent-is .is .shared-is) (p 5) }
 
 -- ---- reclaim
 

@@ -12,7 +12,7 @@ use lib.ListN.{length, getD}
 use lib.Seq.{getD-set-same}
 use Rattle.rules.specs.Rules.{nth}
 use Rattle.rules.proofs.Checks.{passes}
-use Rattle.ring.specs.Queue.{slotOf, tailOf, grown}
+use Rattle.ring.specs.Queue.{everPosted, everReturned, slotOf, tailOf, grown}
 use Rattle.ring.proofs.Record.{tail-below}
 use Rattle.request.specs.declared.Request.{Request}
 use Rattle.request.proofs.Slots.{slots-are}
@@ -75,7 +75,19 @@ module _ (q : TxQueue) (ring tokens counts addresses lengths : List ℕ) (reques
   -- of a queue that was empty, and any ring so long in which the device has marked the packet's last slot
   pub first-reclaimed : (token : ℕ) → q .shared .posted ≡ 0 → (ring′ : List ℕ) → length ring′ ≡ length ring → isMarked ring′ (slotOf (q .shared) (slotsTaken request lengths - 1)) ≡ true
       → reclaimOf (movedTo q (grown (q .shared) (slotsTaken request lengths))) ring′ (tokensAfter q ring tokens counts addresses lengths request token) (countsAfter q ring tokens counts addresses lengths request)
-      ≡ record { answer = 0; queue = movedTo q (record { queue = q .shared .queue; size = q .shared .size; head = slotOf (q .shared) (slotsTaken request lengths); posted = 0 }); token = token; count = slotsTaken request lengths }
+      ≡ record {
+        answer = 0;
+        queue = movedTo q (record {
+          queue = q .shared .queue;
+          size = q .shared .size;
+          head = slotOf (q .shared) (slotsTaken request lengths);
+          posted = 0;
+          «ever_posted» = everPosted (q .shared) + slotsTaken request lengths;
+          «ever_returned» = everReturned (q .shared) + slotsTaken request lengths;
+        });
+        token = token;
+        count = slotsTaken request lengths;
+      }
   first-reclaimed token z ring′ e m =
       let at-head : q .shared .head ≡ tailOf (q .shared) = sym (ap (λ (k : ℕ). k % q .shared .size) (omega arith) ∙ mod-eq-of-lt (facts .lent-is .is .shared-is .head-below)) in
       let none : q .shared .posted + slotsTaken request lengths - slotsTaken request lengths ≡ 0 = omega arith in

@@ -50,7 +50,7 @@ module _ (q : TxQueue) (ring tokens counts addresses lengths : List ℕ) (reques
   pub slot-reads : (k : ℕ) → k < slotsTaken request lengths → numbersAt 2 after (slotAt (tailOf (q .shared)) (q .shared .size) k) ≡ descriptor request addresses lengths k
   slot-reads k l =
       ap (λ (m : List ℕ). numbersAt 2 m (slotAt first (q .shared .size) k)) after-is
-      ∙ row-reads 2 (q .shared .size) (descriptor request addresses lengths) ring first (two-words request addresses lengths) (facts .lent-is .ring-long) (slotsOf request n) k (omega (arith, facts .room, facts .lent-is .is .shared-is)) l
+      ∙ row-reads 2 (q .shared .size) (descriptor request addresses lengths) ring first (two-words request addresses lengths) (facts .lent-is .ring-long) (slotsOf request n) k (omega (arith, facts .grow .room)) l
 
   piece-reads : (i : ℕ) → i < n → numbersAt 2 after (pieceSlot (q .shared .size) first request i) ≡ pieceNumbers request addresses lengths i
   piece-reads i l = slot-reads (slotsOf request i) (slots-more request l) ∙ piece-at request addresses lengths i

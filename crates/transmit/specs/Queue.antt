@@ -38,7 +38,7 @@ movedTo q s = record { shared = s; frame = q .frame }
 abbrev pub emptyQueue : ℕ → ℕ → ℕ → TxQueue
 emptyQueue queue size frame = record { shared = Ring.emptyQueue queue size; frame = frame }
 
--- a fresh queue: head 0 and posted 0; outside the lines, 1 and an all-zero record
+-- a fresh queue: head 0, posted 0 and both counts 0; outside the lines, 1 and an all-zero record
 unfoldable pub freshOf : ℕ → ℕ → ℕ → Fresh
 freshOf queue size frame =
     cond (recordOk (emptyQueue queue size frame))

@@ -1,14 +1,14 @@
 -- Send (01, "Sending"): its checks in their order, the record and the lent memory after it.
 -- Assumes nothing.
-use Prim.Native.Nat.{ℕ, _-_}
+use Prim.Native.Nat.{ℕ}
 use mathlib.Core.Path.{_≡_}
 use mathlib.Core.Bool.{not, cond}
 use mathlib.Core.List.{List, [], _∷_, _++_}
-use lib.Dec.{ltb, eqb}
+use lib.Dec.{eqb}
 use lib.ListN.{length, getD, set}
 use Rattle.rules.specs.Rules.{Check, _when_, answerOf}
 use Rattle.ring.specs.Memory.{numbersAt, storeRun}
-use Rattle.ring.specs.Queue.{slotOf, tailOf, grown}
+use Rattle.ring.specs.Queue.{slotOf, tailOf, noRoom, grown}
 use Rattle.request.specs.declared.Request.{Request}
 use Rattle.request.specs.Request.{slotsOf}
 use Rattle.packet.specs.Packet.{packetChecks}
@@ -17,25 +17,22 @@ use Rattle.transmit.specs.declared.TxQueue.{TxQueue}
 use Rattle.transmit.specs.declared.Sent.{Sent}
 use Rattle.transmit.specs.Queue.{lentOk, movedTo}
 
--- slots that a send may still take
-abbrev pub freeSlots : TxQueue → ℕ
-freeSlots q = q .shared .size - 1 - q .shared .posted
-
 -- the slots that a send of such pieces needs, and takes
 abbrev pub slotsTaken : Request → List ℕ → ℕ
 slotsTaken request lengths = slotsOf request (length lengths)
 
--- 1 the record or a slice's length is wrong; 6, 2, 7, 8 of the pieces and the request; 3 slots needed exceed size - 1 - posted
+-- 1 the record or a slice's length is wrong; 6, 2, 7, 8 of the pieces and the request; 3 there is no room for the slots needed: they exceed
+-- size - 1 - posted, or slots ever posted would pass 2^64 - 1
 abbrev pub sendChecks : TxQueue → ℕ → ℕ → ℕ → List ℕ → List ℕ → Request → List Check
 sendChecks q ringLength tokensLength countsLength addresses lengths request =
     (1 when not (lentOk q ringLength tokensLength countsLength))
-    ∷ (packetChecks addresses lengths (q .frame) request ++ (3 when ltb (freeSlots q) (slotsTaken request lengths) ∷ []))
+    ∷ (packetChecks addresses lengths (q .frame) request ++ (3 when noRoom (q .shared) (slotsTaken request lengths) ∷ []))
 
 unfoldable pub sendAnswer : TxQueue → ℕ → ℕ → ℕ → List ℕ → List ℕ → Request → ℕ
 sendAnswer q ringLength tokensLength countsLength addresses lengths request =
     answerOf (sendChecks q ringLength tokensLength countsLength addresses lengths request)
 
--- done: posted grows by the slots
+-- done: posted and the slots ever posted grow by the slots, a context descriptor's among them
 abbrev pub sendDone : TxQueue → ℕ → Sent
 sendDone q slots = record { answer = 0; queue = movedTo q (grown (q .shared) slots); slots = slots }
 

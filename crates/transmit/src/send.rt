@@ -34,12 +34,10 @@ impl TxQueue {
     ) -> u8
         ensures { λ r. ⌜ r ≡ sendAnswer self «ring_length» «tokens_length» «counts_length» (now (addresses .entry)) (now (lengths .entry)) request ⌝ }
     {
-        let size = self.shared.size;
-        let posted = self.shared.posted;
         if self.lent_ok(ring_length, tokens_length, counts_length) {
             let own = judge(addresses, lengths, self.frame as u64, request);
             if own == 0 {
-                if size - 1 - posted < slots_of(request, lengths.len()) {
+                if self.shared.no_room(slots_of(request, lengths.len())) {
                     3
                 } else {
                     0

@@ -23,7 +23,7 @@ accepted d = d .before .before .before .before .before .before
 
 -- the slots that the send takes fit the record and a count
 slots-few : (d : tie.After-slice-known4) → entry (accepted d) .args .self .shared .posted + d .before .before .before .before .slots-of .result < entry (accepted d) .args .self .shared .size
-slots-few d = let r = ready (accepted d) in omega (arith, d .before .before .before .before .slots-of .ensures, r .room, r .lent-is .is .shared-is)
+slots-few d = let r = ready (accepted d) in omega (arith, d .before .before .before .before .slots-of .ensures, r .grow .room)
 
 send-answer-requires : tie.Need-send-answer-requires
 send-answer-requires c κs = search needs
@@ -43,7 +43,7 @@ put-descriptors-requires c κs =
       start-below = c .before .before .tail .ensures .below;
       paired = r .own .paired;
       some = r .own .some;
-      fewer = omega (arith, r .room, r .lent-is .is .shared-is);
+      fewer = omega (arith, r .grow .room);
       short = λ i l. omega (arith, r .own .each i l);
     }
 
@@ -63,7 +63,7 @@ slice-write-counts : tie.Need-slice-write-counts
 slice-write-counts c = let h = ready (accepted c) .lent-is in omega (arith, h .counts-long, c .before .before .before .before .before .tail .ensures .below)
 
 grown-requires : tie.Need-grown-requires
-grown-requires c κs = record { is = ready (accepted c) .lent-is .is .shared-is; room = slots-few c }
+grown-requires c κs = rw (c .before .before .before .before .slots-of .ensures) (ready (accepted c) .grow)
 
 same-length : tie.Need-same-length
 same-length c = c .before .before .before .put-descriptors .kept .0

@@ -3,7 +3,7 @@
 use mathlib.Core.Path.{sym, _∙_}
 use native.Mathlib.Omega.{arith}
 use borrow.Author.Needs.{needs}
-use borrow.Author.Tests.{ne-eqb, lt-ltb, le-ltb}
+use borrow.Author.Tests.{ne-eqb}
 use Rattle.packet.specs.Packet.{packetChecks}
 use Rattle.packet.proofs.Accepted.{accepted}
 use Rattle.rules.proofs.Checks.{asked-next}
@@ -18,22 +18,19 @@ lent-ok-requires c κs = search needs
 judge-requires : tie.Need-judge-requires
 judge-requires c κs = search needs
 
-sub-if3 : tie.Need-sub-if3
-sub-if3 c = let h = lent _ _ _ _ (sym (c .before .before .before .lent-ok .ensures) ∙ c .before .before .if1 .taken) in omega arith
-
-sub-if3-2 : tie.Need-sub-if3-2
-sub-if3-2 c = let h = lent _ _ _ _ (sym (c .before .before .before .lent-ok .ensures) ∙ c .before .before .if1 .taken) in omega arith
-
 slots-of-requires : tie.Need-slots-of-requires
 slots-of-requires c κs = accepted _ _ _ _ (sym (c .before .judge .ensures) ∙ c .if2 .taken) .few
 
+no-room-requires : tie.Need-no-room-requires
+no-room-requires c κs = lent _ _ _ _ (sym (c .before .before .before .before .lent-ok .ensures) ∙ c .before .before .before .if1 .taken) .is .shared-is
+
 returns : tie.Need-returns
 unfolding sendAnswer
-returns c = rw (sym (c .before .before .before .before .before .lent-ok .ensures), c .before .before .before .before .if1 .taken, asked-next (packetChecks _ _ _ _) _ tt, sym (c .before .before .before .judge .ensures), c .before .before .if2 .taken, sym (c .before .slots-of .ensures), lt-ltb _ _ (c .if3 .taken))
+returns c = rw (sym (c .before .before .before .before .before .before .lent-ok .ensures), c .before .before .before .before .before .if1 .taken, asked-next (packetChecks _ _ _ _) _ tt, sym (c .before .before .before .before .judge .ensures), c .before .before .before .if2 .taken, sym (c .before .before .slots-of .ensures), sym (c .before .no-room .ensures), c .if3 .taken)
 
 returns-2 : tie.Need-returns-2
 unfolding sendAnswer
-returns-2 c = rw (sym (c .before .before .before .before .before .lent-ok .ensures), c .before .before .before .before .if1 .taken, asked-next (packetChecks _ _ _ _) _ tt, sym (c .before .before .before .judge .ensures), c .before .before .if2 .taken, sym (c .before .slots-of .ensures), le-ltb _ _ (c .if3 .left))
+returns-2 c = rw (sym (c .before .before .before .before .before .before .lent-ok .ensures), c .before .before .before .before .before .if1 .taken, asked-next (packetChecks _ _ _ _) _ tt, sym (c .before .before .before .before .judge .ensures), c .before .before .before .if2 .taken, sym (c .before .before .slots-of .ensures), sym (c .before .no-room .ensures), c .if3 .left)
 
 returns-3 : tie.Need-returns-3
 unfolding sendAnswer
@@ -49,9 +46,8 @@ send-answer-spec =
     (tie.spec
     lent-ok-requires
     judge-requires
-    sub-if3
-    sub-if3-2
     slots-of-requires
+    no-room-requires
     returns
     returns-2
     returns-3
