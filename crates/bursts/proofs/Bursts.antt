@@ -2,7 +2,7 @@
 use Prim.Native.Nat.{ℕ, zero, suc}
 use mathlib.Core.Path.{_≡_, refl, sym, ap, _∙_}
 use mathlib.Core.Bool.{Bool, true, false, cond}
-use mathlib.Core.List.{List, [], _∷_, _++_, map, append-assoc, append-nil}
+use mathlib.Core.List.{List, [], _∷_, _++_, map, append-nil}
 use borrow.Author.Tests.{eq-eqb, ne-eqb}
 use lib.Dec.{eqb}
 use lib.ListN.{length, drop, replicate}
@@ -16,7 +16,7 @@ use Rattle.receive.specs.Burst.{Made, takesFrom, carried, handing, told, burstO
 use Rattle.receive.proofs.Takes.{hands-up}
 use Rattle.receive.proofs.Turns.{takenOn, by-takes}
 use Rattle.receive.proofs.Bursts.{of-made, four-again}
-use Rattle.history.specs.World.{World, poll, Reply, posted, taken, takeAt, after, reply, end, replies, AllAllowed, Start}
+use Rattle.history.specs.World.{World, poll, Reply, taken, takeAt, after, reply, end, replies, AllAllowed, Start}
 use Rattle.history.specs.History.{ifDone, packetsIn, handedUp}
 use Rattle.history.proofs.Late.{end-append, replies-append, in-append, allowed-append}
 use Rattle.history.proofs.Demand.{demand3}

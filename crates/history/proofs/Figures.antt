@@ -3,7 +3,7 @@ use Prim.Native.Nat.{ℕ, _+_, _≤_}
 use mathlib.Core.Path.{_≡_, refl, sym, ap, _∙_}
 use mathlib.Core.Logic.{_≢_}
 use mathlib.Core.Bool.{Bool, true, false, cond}
-use mathlib.Core.List.{List, [], _∷_, _++_, map, append-nil}
+use mathlib.Core.List.{List, [], _∷_, _++_, map}
 use native.Mathlib.Nat.{zero-add}
 use native.Mathlib.Decide.{ℕ-discrete}
 use native.Mathlib.Omega.{arith}
@@ -22,7 +22,7 @@ use Rattle.receive.specs.Queue.{recordOk, emptyQueue}
 use Rattle.receive.proofs.Laws.{fresh-lines, fresh-queue}
 use Rattle.receive.proofs.Takes.{take-refused, hands-up}
 use Rattle.receive.proofs.Counts.{post-moves, take-moves}
-use Rattle.history.specs.World.{World, Event, post, poll, write, Reply, posted, taken, postAt, takeAt, after, reply, end, replies, AllAllowed, Start}
+use Rattle.history.specs.World.{World, Event, post, poll, write, posted, postAt, takeAt, after, reply, end, replies, AllAllowed, Start}
 use Rattle.history.specs.History.{ifDone, acceptedAt, accepted, packetsIn, handedUp, returned}
 use Rattle.history.specs.Figures.{shown, Accepted, NotLower, StoodStill, Console}
 use Rattle.history.proofs.State.{after-accepted, after-refused, placed, room, fit-shared, holds-start}

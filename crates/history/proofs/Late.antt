@@ -24,7 +24,7 @@ use Rattle.history.specs.History.{filled, packets, packetsIn}
 use Rattle.history.specs.Late.{lateFrom, NoneLeft, JustBefore}
 use Rattle.history.proofs.Lists.{LegalWords, openAfter, filled-short, Cut, cut, cut-first, legal-append, legal-split}
 use Rattle.history.proofs.Ring.{pair}
-use Rattle.history.proofs.State.{seen, placed, moved, stored, after-accepted, after-refused, after-none, take-none, after-some, take-some, Fit, fit-shared, room, Holds, holds-count, holds-write, holds-take, seen-first}
+use Rattle.history.proofs.State.{seen, placed, moved, stored, after-accepted, after-refused, after-none, take-none, after-some, take-some, fit-shared, room, Holds, holds-count, holds-write, holds-take, seen-first}
 use Rattle.history.proofs.Run.{post-holds}
 
 -- ---- two lists of events, one after the other

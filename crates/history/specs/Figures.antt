@@ -1,6 +1,6 @@
 -- The console's law (02, "A figure that moves on the console page"): the two figures of a receive queue, in any history that the device's rules
 -- allow, from a fresh queue. They move exactly when a slot does. Assumes nothing.
-use Prim.Native.Nat.{ℕ, _+_, _≤_}
+use Prim.Native.Nat.{_+_, _≤_}
 use mathlib.Core.Path.{_≡_}
 use mathlib.Core.Logic.{_≢_}
 use mathlib.Core.List.{List, [], _++_}

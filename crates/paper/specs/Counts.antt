@@ -8,7 +8,6 @@ use Rattle.receive.specs.declared.RxQueue.{RxQueue}
 use Rattle.receive.specs.Queue as rx
 use Rattle.receive.specs.Post.{postAnswer}
 use Rattle.request.specs.declared.Request.{Request}
-use Rattle.transmit.specs.declared.TxQueue.{TxQueue}
 use Rattle.transmit.specs.Send.{sendAnswer}
 use Rattle.ring.specs.declared.Queue.{Queue}
 use Rattle.paper.specs.Paper.{plain, tcp, took}

@@ -3,7 +3,7 @@
 -- Assumes nothing.
 use Prim.Native.Nat.{ℕ}
 use mathlib.Core.Bool.{Bool, true, false, cond}
-use mathlib.Core.List.{List, [], map}
+use mathlib.Core.List.{List, map}
 use lib.Dec.{eqb}
 use Rattle.ring.specs.Counts.{Moved}
 use Rattle.ring.proofs.Counts.{stay, by-grown, by-advanced, moved-both}

@@ -10,7 +10,7 @@ use lib.Dec.{ltb, eqb}
 use Rattle.rules.proofs.Tests.{same, ltb-same}
 use Rattle.ring.specs.declared.Queue.{Queue}
 use Rattle.ring.specs.Sizes.{mostCount}
-use Rattle.ring.specs.Queue.{everPosted, everReturned, Shared, freeSlots, noRoom, advanced, grown}
+use Rattle.ring.specs.Queue.{everPosted, Shared, freeSlots, noRoom, advanced, grown}
 use Rattle.ring.specs.Steps.{Grow}
 use Rattle.ring.specs.Counts.{Figures, figuresOf, Moved}
 

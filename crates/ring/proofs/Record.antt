@@ -1,12 +1,12 @@
 -- The shared part of a queue record: what its test says, what keeps it, whose the slots are, and what is asked of it.
 -- Assumes nothing.
-use Prim.Native.Nat.{ℕ, _+_, _-_, _^_, _≤_, _<_}
+use Prim.Native.Nat.{ℕ, _+_, _^_, _≤_, _<_}
 use mathlib.Core.Path.{_≡_, refl}
 use mathlib.Core.Bool.{Bool, true, false, not, _&&_}
 use mathlib.Core.List.{[], _∷_}
 use native.Mathlib.Omega.{arith}
 use borrow.Author.Tests.{lt-ltb, le-ltb, eq-eqb, ltb-true, leb-true, eqb-true}
-use lib.Dec.{leb, ltb, eqb}
+use lib.Dec.{leb, ltb}
 use Rattle.rules.specs.Rules.{inSteps, _when_, answerOf}
 use Rattle.rules.proofs.Tests.{both, steps-is}
 use Rattle.rules.proofs.Checks.{one-check}
