@@ -3,12 +3,12 @@
 use crate::author::Author;
 use crate::interrupt::{LEAVE, MOST_INTERVAL, OFF, ON};
 use crate::record::Direction;
-use crate::{bad_lines, burst_aims, receive_aims, transmit_aims};
+use crate::{bad_lines, burst_aims, count_aims, receive_aims, transmit_aims};
 
 type Aim = fn(&mut Author);
 
 /// How often each aim is taken, against the others.
-const AIMS: [(u64, Aim); 31] = [
+const AIMS: [(u64, Aim); 35] = [
     (6, receive_aims::fresh),
     (20, receive_aims::refused_fresh),
     (20, receive_aims::post),
@@ -24,6 +24,8 @@ const AIMS: [(u64, Aim); 31] = [
     (20, burst_aims::refused),
     (12, burst_aims::traffic),
     (10, burst_aims::write),
+    (20, count_aims::receive_disagrees),
+    (12, count_aims::last_posts),
     (6, transmit_aims::fresh),
     (20, transmit_aims::refused_fresh),
     (40, transmit_aims::plain),
@@ -38,6 +40,8 @@ const AIMS: [(u64, Aim); 31] = [
     (30, transmit_aims::damaged),
     (30, transmit_aims::look),
     (6, transmit_aims::scribble),
+    (20, count_aims::transmit_disagrees),
+    (20, count_aims::last_sends),
     (120, interrupt),
     (60, bad_lines::any),
 ];
@@ -67,12 +71,14 @@ pub fn generate(seed: u64, lines: usize) -> Vec<u8> {
     author.into_text()
 }
 
-/// One aim. A queue that answers 1 to everything is mostly started afresh before it.
+/// One aim. A queue that answers 1 to everything, or whose count is about to end, is mostly started
+/// afresh before it.
 pub fn any(author: &mut Author) {
-    if !author.sound(Direction::Receive) && !author.random.one_in(4) {
+    let spent = |author: &Author, queue| !author.sound(queue) || author.near_the_end(queue);
+    if spent(author, Direction::Receive) && !author.random.one_in(4) {
         receive_aims::fresh(author);
     }
-    if !author.sound(Direction::Transmit) && !author.random.one_in(4) {
+    if spent(author, Direction::Transmit) && !author.random.one_in(4) {
         transmit_aims::fresh(author);
     }
     let whole: u64 = AIMS.iter().map(|(weight, _)| weight).sum();

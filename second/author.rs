@@ -1,7 +1,7 @@
 //! An author of scripts: writes lines, and runs each at once so that it knows the bench's state.
 
-use crate::bench::Bench;
-use crate::record::{Direction, Record};
+use crate::bench::{place, Bench};
+use crate::record::{Direction, Record, MOST_EVER};
 
 /// A small random source (splitmix64), so that a seed gives the same script everywhere.
 pub struct Random(u64);
@@ -61,6 +61,23 @@ impl Random {
             _ => self.next(),
         };
         wanted.max(1).min(last)
+    }
+
+    /// So many slots posted, after few were handed back, many, or nearly all that can be.
+    pub fn counted(&mut self, posted: u64) -> Record {
+        let returned = match self.below(8) {
+            0 => 0,
+            1 => self.any(),
+            // a count soon goes past a power of two, mostly past 32 bits
+            2 => {
+                let power = 1u64 << if self.one_in(3) { self.below(64) } else { 32 };
+                power.saturating_sub(self.below(posted.clamp(1, 40) + 8))
+            }
+            // and here past its end
+            3 => MOST_EVER - posted.min(MOST_EVER / 2) - self.below(40),
+            _ => self.below(1 << 20),
+        };
+        Record::counted(returned, posted)
     }
 }
 
@@ -136,8 +153,8 @@ impl Author {
     }
 
     pub fn rxset_lent(&mut self, record: Record, ring: u64, list: u64) {
-        let Record { queue, size, head, posted, limit } = record;
-        self.say(format!("rxset {queue} {size} {head} {posted} {limit} {ring} {list}"));
+        let Record { queue, size, limit, .. } = record;
+        self.say(format!("rxset {queue} {size} {} {limit} {ring} {list}", place(&record)));
     }
 
     pub fn txset(&mut self, record: Record) {
@@ -145,18 +162,24 @@ impl Author {
     }
 
     pub fn txset_lent(&mut self, record: Record, lent: [u64; 3]) {
-        let Record { queue, size, head, posted, limit } = record;
-        let [ring, tokens, counts] = lent;
-        self.say(format!("txset {queue} {size} {head} {posted} {limit} {ring} {tokens} {counts}"));
+        let (Record { queue, size, limit, .. }, [ring, tokens, counts]) = (record, lent);
+        let place = place(&record);
+        self.say(format!("txset {queue} {size} {place} {limit} {ring} {tokens} {counts}"));
+    }
+
+    /// Whether a post, or a send of some pieces, is soon refused for its count alone.
+    pub fn near_the_end(&self, direction: Direction) -> bool {
+        self.bench.record(direction).count_room() < 64
     }
 
     /// Whether calls on this queue get past answer 1.
     pub fn sound(&self, direction: Direction) -> bool {
         let (rx, tx) = (&self.bench.rx, &self.bench.tx);
-        let (record, ring, lists) = match direction {
-            Direction::Receive => (rx.record, rx.lent_ring, [rx.lent_list, rx.lent_list]),
-            Direction::Transmit => (tx.record, tx.lent_ring, [tx.lent_tokens, tx.lent_counts]),
+        let (ring, lists) = match direction {
+            Direction::Receive => (rx.lent_ring, [rx.lent_list, rx.lent_list]),
+            Direction::Transmit => (tx.lent_ring, [tx.lent_tokens, tx.lent_counts]),
         };
+        let record = self.bench.record(direction);
         let size = record.size as usize;
         // the size is small once the record is judged
         record.judge(direction).is_ok() && ring == 2 * size && lists == [size, size]

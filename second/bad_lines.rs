@@ -6,7 +6,7 @@ use crate::script::LONGEST_LINE;
 /// Good lines of every form, to be spoilt.
 const GOOD: [&str; 23] = [
     "rx 0 32 2048",
-    "rxset 0 32 0 0 2048 64 32",
+    "rxset 0 32 0 0 9 9 2048 64 32",
     "rxpoke 0 7",
     "rxlist 0 7",
     "post 4096",
@@ -17,7 +17,7 @@ const GOOD: [&str; 23] = [
     "rxreg",
     "rxsum",
     "tx 0 32 1518",
-    "txset 0 32 0 0 1518 64 32 32",
+    "txset 0 32 0 0 9 9 1518 64 32 32",
     "txpoke 0 7",
     "txtoken 0 7",
     "txcount 0 7",
@@ -52,9 +52,9 @@ const UNFIT: [&str; 16] = [
 
 /// Lines that break a bound of the bench.
 const BEYOND: [&str; 41] = [
-    "rxset 0 32 0 0 2048 16385 32",
-    "rxset 0 32 0 0 2048 64 8193",
-    "rxset 0 32 0 0 2048 18446744073709551615 32",
+    "rxset 0 32 0 0 9 9 2048 16385 32",
+    "rxset 0 32 0 0 9 9 2048 64 8193",
+    "rxset 0 32 0 0 9 9 2048 18446744073709551615 32",
     "rxpoke 16384 0",
     "rxpoke 18446744073709551615 0",
     "rxlist 8192 0",
@@ -66,9 +66,9 @@ const BEYOND: [&str; 41] = [
     "burst 0 129",
     "burst 33 224",
     "burst 1 18446744073709551615",
-    "txset 0 32 0 0 1518 16385 32 32",
-    "txset 0 32 0 0 1518 64 8193 32",
-    "txset 0 32 0 0 1518 64 32 8193",
+    "txset 0 32 0 0 9 9 1518 16385 32 32",
+    "txset 0 32 0 0 9 9 1518 64 8193 32",
+    "txset 0 32 0 0 9 9 1518 64 32 8193",
     "txpoke 16384 0",
     "txtoken 8192 0",
     "txcount 8192 0",
@@ -95,8 +95,8 @@ const BEYOND: [&str; 41] = [
     "int 0 1 0 1 0 0 3 0 0",
 ];
 
-/// Whole lines of other sorts.
-const STRAY: [&str; 38] = [
+/// Whole lines of other sorts, among them records without the counts.
+const STRAY: [&str; 40] = [
     " ",
     "  ",
     "\t",
@@ -133,6 +133,8 @@ const STRAY: [&str; 38] = [
     "burst 1 96 0",
     "bursts 1 96",
     "reclaim 0",
+    "rxset 0 32 0 0 2048 64 32",
+    "txset 0 32 0 0 1518 64 32 32",
     "txsum 0",
     "caf\u{e9}",
 ];

@@ -3,6 +3,7 @@
 
 use crate::burst;
 use crate::burst_cover::{self, Scene};
+use crate::count_cover::{self, Waiting};
 use crate::cover::Seen;
 use crate::interrupt;
 use crate::receive::{self, Packet};
@@ -38,6 +39,8 @@ pub struct Bench {
     pub seen: Seen,
     /// The answer of the last call that had one.
     pub answer: u8,
+    /// The last send on this transmit queue, if it was refused with 3.
+    waiting: Option<Waiting>,
 }
 
 impl Transmit {
@@ -74,6 +77,7 @@ impl Bench {
             out: vec![0; script::OUT as usize],
             seen: Seen::new(),
             answer: 0,
+            waiting: None,
         }
     }
 
@@ -118,6 +122,7 @@ impl Bench {
         match command {
             Command::Tx { queue, size, frame } => self.tx(*queue, *size, *frame, out),
             Command::TxSet { record, ring, tokens, counts } => {
+                self.waiting = None;
                 self.tx.record = *record;
                 self.tx.lent_ring = *ring;
                 self.tx.lent_tokens = *tokens;
@@ -148,6 +153,7 @@ impl Bench {
     fn rx(&mut self, queue: u64, size: u64, buffer: u64, out: &mut String) {
         let judged = Record::fresh(Direction::Receive, queue, size, buffer);
         let answer = self.note("rx", &judged, "");
+        count_cover::fresh(count_cover::RX, answer, &self.rx.record, &mut self.seen);
         if let Ok(record) = judged {
             self.rx.lent_ring = 2 * record.size as usize;
             self.rx.lent_list = record.size as usize;
@@ -159,6 +165,8 @@ impl Bench {
     fn tx(&mut self, queue: u64, size: u64, frame: u64, out: &mut String) {
         let judged = Record::fresh(Direction::Transmit, queue, size, frame);
         let answer = self.note("tx", &judged, "");
+        count_cover::fresh(count_cover::TX, answer, &self.tx.record, &mut self.seen);
+        self.waiting = None;
         if let Ok(record) = judged {
             self.tx.lent_ring = 2 * record.size as usize;
             self.tx.lent_tokens = record.size as usize;
@@ -173,12 +181,13 @@ impl Bench {
         let (ring, list) = (&mut rx.ring[..rx.lent_ring], &mut rx.list[..rx.lent_list]);
         let judged = receive::post(rx.record, ring, list, address);
         let answer = self.note("post", &judged, "");
+        let before = self.rx.record;
         if let Ok(record) = judged {
             self.rx.record = record;
             self.seen.bits("post address", 64, address);
         }
-        let Record { head, posted, .. } = self.rx.record;
-        let _ = writeln!(out, "post {answer} {head} {posted}");
+        count_cover::POST.met(answer, &before, &self.rx.record, 1, &mut self.seen);
+        let _ = writeln!(out, "post {answer} {}", place(&self.rx.record));
     }
 
     fn take(&mut self, out: &mut String) {
@@ -189,12 +198,14 @@ impl Bench {
             Err(_) => "",
         };
         let answer = self.note("take", &judged, done);
+        let before = self.rx.record;
         if let Ok((record, packet)) = &judged {
-            let last = self.rx.record.slot(packet.count - 1);
+            let last = before.slot(packet.count - 1);
             let words = [self.rx.ring[2 * last], self.rx.ring[2 * last + 1]];
             self.seen.packet(packet, words);
             self.rx.record = *record;
         }
+        count_cover::TAKE.met(answer, &before, &self.rx.record, 0, &mut self.seen);
         let packet = judged.map(|(_, packet)| packet).unwrap_or_default();
         take_line(answer, &self.rx.record, &packet, out);
     }
@@ -213,12 +224,12 @@ impl Bench {
             self.rx.record = burst.record;
             (packets, examined) = (burst.packets, burst.examined);
         }
-        let Record { head, posted, .. } = self.rx.record;
-        let sum = sum(&self.out);
-        let _ = writeln!(out, "burst {answer} {head} {posted} {packets} {examined} {sum}");
+        count_cover::BURST.met(answer, &record, &self.rx.record, 0, &mut self.seen);
+        let (place, sum) = (place(&self.rx.record), sum(&self.out));
+        let _ = writeln!(out, "burst {answer} {place} {packets} {examined} {sum}");
     }
 
-    fn record(&self, direction: Direction) -> Record {
+    pub fn record(&self, direction: Direction) -> Record {
         match direction {
             Direction::Receive => self.rx.record,
             Direction::Transmit => self.tx.record,
@@ -258,31 +269,32 @@ impl Bench {
     }
 
     fn send(&mut self, request: &Send, out: &mut String) {
-        let record = self.tx.record;
-        let judged = transmit::send(record, &mut self.tx.lent(), request);
+        let before = self.tx.record;
+        let judged = transmit::send(before, &mut self.tx.lent(), request);
         let done = if judged.is_ok() { send_kind(request) } else { "" };
         let answer = self.note("send", &judged, done);
         if let Ok((record, _)) = judged {
             self.tx.record = record;
             self.seen.sent(request);
         }
+        count_cover::SEND.met(answer, &before, &self.tx.record, request.slots(), &mut self.seen);
+        count_cover::sent(request, answer, &before, &mut self.waiting, &mut self.seen);
         let slots = judged.map(|(_, slots)| slots).unwrap_or(0);
-        let Record { head, posted, .. } = self.tx.record;
-        let _ = writeln!(out, "send {answer} {head} {posted} {slots}");
+        let _ = writeln!(out, "send {answer} {} {slots}", place(&self.tx.record));
     }
 
     fn reclaim(&mut self, out: &mut String) {
-        let record = self.tx.record;
-        let judged = transmit::reclaim(record, &self.tx.lent());
+        let before = self.tx.record;
+        let judged = transmit::reclaim(before, &self.tx.lent());
         let answer = self.note("reclaim", &judged, "");
         if let Ok((record, token, count)) = judged {
             self.tx.record = record;
             self.seen.bits("reclaim TOKEN", 64, token);
             self.seen.bits("reclaim COUNT", 12, count);
         }
+        count_cover::RECLAIM.met(answer, &before, &self.tx.record, 0, &mut self.seen);
         let (token, count) = judged.map(|(_, token, count)| (token, count)).unwrap_or((0, 0));
-        let Record { head, posted, .. } = self.tx.record;
-        let _ = writeln!(out, "reclaim {answer} {head} {posted} {token} {count}");
+        let _ = writeln!(out, "reclaim {answer} {} {token} {count}", place(&self.tx.record));
     }
 
     fn interrupt(&mut self, request: &interrupt::Request, out: &mut String) {
@@ -297,15 +309,20 @@ impl Bench {
     }
 }
 
+/// Where a record stands, as every line prints it: head, posted and the two counts.
+pub fn place(record: &Record) -> String {
+    let Record { head, posted, ever_posted, ever_returned, .. } = *record;
+    format!("{head} {posted} {ever_posted} {ever_returned}")
+}
+
 fn fresh_line(call: &str, answer: u8, record: &Record, out: &mut String) {
-    let Record { queue, size, head, posted, limit } = *record;
-    let _ = writeln!(out, "{call} {answer} {queue} {size} {head} {posted} {limit}");
+    let Record { queue, size, limit, .. } = *record;
+    let _ = writeln!(out, "{call} {answer} {queue} {size} {} {limit}", place(record));
 }
 
 fn take_line(answer: u8, record: &Record, packet: &Packet, out: &mut String) {
-    let Record { head, posted, .. } = *record;
     let Packet { count, total, .. } = *packet;
-    let _ = write!(out, "take {answer} {head} {posted} {count} {total}");
+    let _ = write!(out, "take {answer} {} {count} {total}", place(record));
     for (address, length) in packet.addresses.iter().zip(&packet.lengths) {
         let _ = write!(out, " {address} {length}");
     }

@@ -95,7 +95,7 @@ fn queue_of(random: &mut Random, slots: u64) -> Record {
         0 => BUFFER.upper,
         _ => BUFFER.step * random.between(8, 127),
     };
-    Record { queue: random.below(4), size, head, posted: slots, limit }
+    Record { queue: random.below(4), size, head, limit, ..random.counted(slots) }
 }
 
 /// Takes and bursts read only word 1 until a packet is complete, so word 0 is left.
@@ -154,7 +154,7 @@ pub fn ready(author: &mut Author) {
     let slots = counts.iter().sum();
     let mut record = queue_of(&mut author.random, slots);
     packets(author, &record, &counts);
-    record.posted = stop(author, &record, slots);
+    record = record.with_posted(stop(author, &record, slots));
     author.rxset(record);
     for _ in 0..author.random.between(1, 6) {
         if author.random.one_in(2) {

@@ -38,7 +38,7 @@ fn three_slots() -> (Record, Vec<u64>) {
     ring[1] = length(2048) | 1;
     ring[3] = length(52) | 3;
     ring[5] = length(64) | 3;
-    (Record { queue: 0, size: 32, head: 31, posted: 3, limit: 2048 }, ring)
+    (Record { queue: 0, size: 32, head: 31, limit: 2048, ..Record::counted(5, 3) }, ring)
 }
 
 /// A burst on a list of sevens: what it gave, and the list after it.
@@ -78,13 +78,13 @@ fn two_packets(checks: &mut Checks) {
         checks.equal(name, &out[..3 * packets], &two[..3 * packets]);
         checks.equal(name, &out[3 * packets..], &vec![7; 96 - 3 * packets]);
     }
-    let empty = Record { posted: 0, ..record };
+    let empty = record.with_posted(0);
     checks.equal("nothing posted", on_sevens(empty, &ring, 32, 96).0, Ok((0, 0, 31, 0, 4)));
     // the second packet's first slot is read, its second is not posted
-    let two_posted = Record { posted: 2, ..record };
+    let two_posted = record.with_posted(2);
     checks.equal("past the posted", on_sevens(two_posted, &ring, 32, 96).0, Ok((1, 2, 0, 1, 4)));
     // a fourth slot that is posted and not written is read
-    let (four, mut ring) = (Record { posted: 4, ..record }, ring);
+    let (four, mut ring) = (record.with_posted(4), ring);
     ring[5] = 0;
     checks.equal("not written", on_sevens(four, &ring, 32, 96).0, Ok((2, 4, 2, 1, 4)));
     ring[5] = length(2049) | 3;
@@ -97,11 +97,11 @@ fn five_slots(checks: &mut Checks) {
     for slot in 0..10 {
         ring[2 * slot + 1] = length(10) | if slot == 4 { 3 } else { 1 };
     }
-    let record = Record { queue: 0, size: 32, head: 0, posted: 10, limit: 2048 };
+    let record = Record { queue: 0, size: 32, head: 0, limit: 2048, ..Record::counted(5, 10) };
     checks.equal("fifth, wrong", on_sevens(record, &ring, 32, 96).0, Ok((1, 10, 5, 5, 5)));
     ring[19] = 0;
     checks.equal("fifth, not written", on_sevens(record, &ring, 32, 96).0, Ok((1, 10, 5, 5, 4)));
-    let nine = Record { posted: 9, ..record };
+    let nine = record.with_posted(9);
     checks.equal("fifth, not posted", on_sevens(nine, &ring, 32, 96).0, Ok((1, 9, 5, 4, 4)));
 }
 
@@ -134,7 +134,8 @@ fn examined_twice(checks: &mut Checks) {
         let list = vec![4096; 32];
         let (head, posted) = (random.below(32), random.below(32));
         let limit = random.between(1, 12);
-        let first = Record { queue: 0, size: 32, head, posted, limit: 1024 };
+        let counted = random.counted(posted);
+        let first = Record { queue: 0, size: 32, head, limit: 1024, ..counted };
         let (mut record, mut out) = (first, vec![9; LENT as usize]);
         let (mut wanted, mut examined, mut stop) = (Vec::new(), 0, 0);
         while wanted.len() < 3 * limit as usize && stop == 0 {
@@ -160,17 +161,17 @@ fn examined_twice(checks: &mut Checks) {
 fn lines(checks: &mut Checks) {
     let said = |script: &str| answers(script.as_bytes()).0;
     let mut equal = |script: &str, wanted: &str| checks.equal(script, said(script), wanted.into());
-    equal("burst 1 96", "burst 1 0 0 0 0 0\n");
-    equal("rx 0 32 2048\nburst 33 96", "rx 0 0 32 0 0 2048\nburst 10 0 0 0 0 0\n");
-    equal("rx 0 32 2048\nburst 1 96", "rx 0 0 32 0 0 2048\nburst 4 0 0 0 0 0\n");
+    equal("burst 1 96", "burst 1 0 0 0 0 0 0 0\n");
+    equal("rx 0 32 2048\nburst 33 96", "rx 0 0 32 0 0 0 0 2048\nburst 10 0 0 0 0 0 0 0\n");
+    equal("rx 0 32 2048\nburst 1 96", "rx 0 0 32 0 0 0 0 2048\nburst 4 0 0 0 0 0 0 0\n");
     equal(
         "out 128 1\nburst 1 129\nout 1\nburst 1\nburst 1 96 0",
         "bad 1\nbad 2\nbad 3\nbad 4\nbad 5\n",
     );
     // the sum is of all 128 numbers: rotl(1, 7 x 127) is 2^57
-    equal("out 0 1\nout 127 3\nburst 1 0", "burst 1 0 0 0 0 144115188075855875\n");
+    equal("out 0 1\nout 127 3\nburst 1 0", "burst 1 0 0 0 0 0 0 144115188075855875\n");
     // slot 0 alone, 64 bytes: 0, 1 and 64 are written, and in the sum rotl(1, 7 x 126) is 2^50,
     // rotl(64, 7 x 125) is 2^49
-    let packet = "rxset 0 32 0 1 2048 64 32\nrxpoke 1 17592186044419\nburst 1 96\nburst 1 96";
-    equal(packet, "burst 0 1 0 1 1 1688849860263936\nburst 4 1 0 0 0 1688849860263936\n");
+    let packet = "rxset 0 32 0 1 9 8 2048 64 32\nrxpoke 1 17592186044419\nburst 1 96\nburst 1 96";
+    equal(packet, "burst 0 1 0 9 9 1 1 1688849860263936\nburst 4 1 0 9 9 0 0 1688849860263936\n");
 }

@@ -1,9 +1,9 @@
 //! What a script met: calls and answers, the clause behind each answer, and each field's bits.
 
-use crate::burst_cover;
-use crate::receive::{Packet, FIELD_NAMES};
+use crate::receive::{self, Packet, FIELD_NAMES};
 use crate::record::bits;
-use crate::transmit::Send;
+use crate::transmit::{Send, NO_ROOM_PLAIN, NO_ROOM_SEGMENTED};
+use crate::{burst_cover, count_cover};
 use std::collections::BTreeMap;
 use std::fmt::Write;
 
@@ -166,7 +166,6 @@ const LENT_TX: &[&str] = &[
 ];
 
 const BUFFER_CAUSES: &[&str] = &["address 0", "address + length passes 2^64"];
-const POST_FULL: &[&str] = &["all but one slot posted"];
 
 const TAKEN: &[&str] = &[
     "1 slot",
@@ -209,7 +208,6 @@ const SENT: &[&str] = &[
     "segmented, a segment touches 8",
     "segmented, 4,094 pieces",
 ];
-const NO_ROOM: &[&str] = &["no room, plain", "no room, segmented"];
 const WRONG_LENGTHS: &[&str] = &[
     "lists differ in length",
     "no piece",
@@ -296,18 +294,21 @@ const CAUSES: &[(&str, u8, &[&str])] = &[
     ("rx", 1, ASKED_RX),
     ("post", 1, ASKED_RX),
     ("post", 1, HANDED_IN),
+    ("post", 1, count_cover::DISAGREE),
     ("post", 1, LENT_RX),
     ("post", 2, BUFFER_CAUSES),
-    ("post", 3, POST_FULL),
+    ("post", 3, &receive::NO_ROOM),
     ("take", 0, TAKEN),
     ("take", 1, ASKED_RX),
     ("take", 1, HANDED_IN),
+    ("take", 1, count_cover::DISAGREE),
     ("take", 1, LENT_RX),
     ("take", 4, NOT_YET),
     ("take", 5, WRONG_WRITE_BACK),
     ("burst", 0, burst_cover::LIMITS),
     ("burst", 1, ASKED_RX),
     ("burst", 1, HANDED_IN),
+    ("burst", 1, count_cover::DISAGREE),
     ("burst", 1, LENT_RX),
     ("burst", 1, burst_cover::LENT_OUT),
     ("burst", 4, NOT_YET),
@@ -315,27 +316,34 @@ const CAUSES: &[(&str, u8, &[&str])] = &[
     ("burst", 10, burst_cover::WRONG_LIMIT),
     ("rxtail", 1, ASKED_RX),
     ("rxtail", 1, HANDED_IN),
+    ("rxtail", 1, count_cover::DISAGREE),
     ("rxreg", 1, ASKED_RX),
     ("rxreg", 1, HANDED_IN),
+    ("rxreg", 1, count_cover::DISAGREE),
     ("tx", 1, ASKED_TX),
     ("send", 0, SENT),
     ("send", 1, ASKED_TX),
     ("send", 1, HANDED_IN),
+    ("send", 1, count_cover::DISAGREE),
     ("send", 1, LENT_TX),
     ("send", 2, BUFFER_CAUSES),
-    ("send", 3, NO_ROOM),
+    ("send", 3, &NO_ROOM_PLAIN),
+    ("send", 3, &NO_ROOM_SEGMENTED),
     ("send", 6, WRONG_LENGTHS),
     ("send", 7, WRONG_OFFLOAD),
     ("send", 8, CROWDED),
     ("reclaim", 1, ASKED_TX),
     ("reclaim", 1, HANDED_IN),
+    ("reclaim", 1, count_cover::DISAGREE),
     ("reclaim", 1, LENT_TX),
     ("reclaim", 4, NOT_DONE),
     ("reclaim", 5, UNFIT_COUNT),
     ("txtail", 1, ASKED_TX),
     ("txtail", 1, HANDED_IN),
+    ("txtail", 1, count_cover::DISAGREE),
     ("txreg", 1, ASKED_TX),
     ("txreg", 1, HANDED_IN),
+    ("txreg", 1, count_cover::DISAGREE),
     ("int", 0, ENABLES),
     ("int", 9, WRONG_INTERRUPT),
     ("bad", 0, BAD),
@@ -402,7 +410,8 @@ impl Seen {
 
     fn clauses(&self, every_clause: bool, text: &mut String) -> usize {
         let (mut clauses, mut met, mut gaps) = (0, 0, 0);
-        for (call, answer, causes) in CAUSES.iter().chain(burst_cover::CAUSES) {
+        let beside = burst_cover::CAUSES.iter().chain(count_cover::CAUSES);
+        for (call, answer, causes) in CAUSES.iter().chain(beside) {
             for cause in *causes {
                 let times = self.answers.get(&(*call, *answer, *cause)).copied().unwrap_or(0);
                 clauses += 1;
@@ -449,7 +458,7 @@ impl Seen {
 }
 
 fn counted() -> impl Iterator<Item = &'static str> {
-    COUNTED.into_iter().chain(burst_cover::COUNTED)
+    COUNTED.into_iter().chain(burst_cover::COUNTED).chain(count_cover::COUNTED)
 }
 
 fn mark(times: u64) -> &'static str {

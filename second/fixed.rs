@@ -2,11 +2,15 @@
 
 use crate::author::Author;
 use crate::script::LONGEST_LINE;
-use crate::{aims, bad_lines, fixed_burst, fixed_receive, fixed_transmit};
+use crate::{aims, bad_lines, fixed_burst, fixed_counts, fixed_receive, fixed_transmit};
 
 /// Random lines at the end, from a seed of their own.
 const RANDOM_LINES: usize = 4_000;
 const SEED: u64 = 2026;
+
+/// Slots handed back before a record that the script hands in, so that neither of its counts is
+/// another number of it.
+pub const BEFORE: u64 = 70_000;
 
 pub fn script() -> Vec<u8> {
     let mut author = Author::new(SEED, usize::MAX);
@@ -17,6 +21,7 @@ pub fn script() -> Vec<u8> {
     fixed_receive::all(&mut author);
     fixed_burst::all(&mut author);
     fixed_transmit::all(&mut author);
+    fixed_counts::all(&mut author);
     bad(&mut author);
     author.say("# random lines");
     let end = author.lines() + RANDOM_LINES;

@@ -3,6 +3,7 @@
 
 use crate::author::Author;
 use crate::burst::{LENT, MOST_PACKETS, NUMBERS};
+use crate::fixed::BEFORE;
 use crate::receive::MOST_SLOTS;
 use crate::record::Record;
 use crate::script::OUT;
@@ -56,7 +57,7 @@ fn the_list(author: &mut Author) {
 
 fn papers_examples(author: &mut Author) {
     author.say("# burst: limit 33; two packets and then a stale slot");
-    let record = Record { queue: 0, size: 32, head: 31, posted: 3, limit: 2048 };
+    let record = Record { queue: 0, size: 32, head: 31, limit: 2048, ..Record::counted(BEFORE, 3) };
     for (distance, word1) in [length(100) | 3, length(2048) | 1, length(52) | 3].iter().enumerate()
     {
         written(author, &record, distance as u64, *word1);
@@ -79,7 +80,8 @@ fn papers_examples(author: &mut Author) {
 /// are marked.
 fn limits(author: &mut Author) {
     author.say("# burst: limits");
-    let record = Record { queue: 1, size: 64, head: 50, posted: 40, limit: 1024 };
+    let record =
+        Record { queue: 1, size: 64, head: 50, limit: 1024, ..Record::counted(BEFORE, 40) };
     for distance in 0..40 {
         written(author, &record, distance, length(60 + distance) | 3);
     }
@@ -103,8 +105,8 @@ fn limits(author: &mut Author) {
 /// Each length with limits on both sides: 1 comes before 10.
 fn lengths(author: &mut Author) {
     author.say("# burst: lengths of the list, and 1 before 10");
-    let record = Record { queue: 1, size: 64, head: 50, posted: 3, limit: 1024 };
-    let wrong = Record { posted: 64, ..record };
+    let record = Record { queue: 1, size: 64, head: 50, limit: 1024, ..Record::counted(BEFORE, 3) };
+    let wrong = record.with_posted(64);
     for length in [0, 1, 2, 3, 32, 64, 93, 94, 95, 96, 97, 98, 126, 127, 128] {
         for limit in [0, 1, 32, 33] {
             author.rxset(record);
@@ -125,7 +127,7 @@ fn lengths(author: &mut Author) {
 /// slot past the posted ones, the last posted one, and with others after it.
 fn stops(author: &mut Author) {
     author.say("# burst: each way to stop, at each slot, after so many packets");
-    let record = Record { queue: 2, size: 64, head: 47, posted: 0, limit: 1024 };
+    let record = Record { queue: 2, size: 64, head: 47, limit: 1024, ..Record::counted(BEFORE, 0) };
     for packets in [0, 1, 2, 30, 31] {
         for distance in 0..packets {
             written(author, &record, distance, length(100 + distance) | 3);
@@ -143,7 +145,7 @@ fn stops(author: &mut Author) {
             ] {
                 written(author, &record, at, word1);
                 for posted in [at, at + 1] {
-                    author.rxset(Record { posted, ..record });
+                    author.rxset(record.with_posted(posted));
                     burst(author, MOST_PACKETS);
                 }
             }
@@ -159,7 +161,8 @@ fn stops(author: &mut Author) {
 fn longest(author: &mut Author) {
     author.say("# burst: packets of five slots");
     let slots = MOST * MOST_PACKETS;
-    let record = Record { queue: 3, size: 192, head: 100, posted: slots, limit: 16_256 };
+    let counted = Record::counted(BEFORE, slots);
+    let record = Record { queue: 3, size: 192, head: 100, limit: 16_256, ..counted };
     for distance in 0..slots {
         let flags = if distance % MOST == MOST - 1 { 3 } else { 1 };
         written(author, &record, distance, length(16_256 - 64 * distance) | flags);
@@ -174,7 +177,7 @@ fn longest(author: &mut Author) {
         burst(author, MOST_PACKETS - 1);
     }
     for posted in slots - 6..slots {
-        author.rxset(Record { posted, ..record });
+        author.rxset(record.with_posted(posted));
         burst(author, MOST_PACKETS);
     }
 }
@@ -183,7 +186,8 @@ fn longest(author: &mut Author) {
 fn rounds(author: &mut Author) {
     author.say("# burst: across the ring's end");
     for head in [0, 1, 16, 27, 28, 29, 30, 31] {
-        let record = Record { queue: 2, size: 32, head, posted: 31, limit: 1024 };
+        let record =
+            Record { queue: 2, size: 32, head, limit: 1024, ..Record::counted(BEFORE, 31) };
         let mut distance = 0;
         for count in [1, 2, 3, 4, 5].iter().cycle().take(10) {
             for place in 1..=*count {
@@ -193,7 +197,7 @@ fn rounds(author: &mut Author) {
             }
         }
         for (posted, limit) in [(31, 32), (31, 9), (30, 10), (29, 10), (15, 5), (14, 5)] {
-            author.rxset(Record { posted, ..record });
+            author.rxset(record.with_posted(posted));
             burst(author, limit);
         }
     }
@@ -205,7 +209,8 @@ fn first_slots_and_totals(author: &mut Author) {
     author.say("# burst: each bit of a first slot and of a total");
     for bit in 0..12 {
         for head in [1 << bit, 4095 - (1 << bit)] {
-            let record = Record { queue: 0, size: 4096, head, posted: 4095 - head, limit: 16_256 };
+            let counted = Record::counted(BEFORE, 4095 - head);
+            let record = Record { queue: 0, size: 4096, head, limit: 16_256, ..counted };
             for place in 0..4 {
                 written(author, &record, place, length((1 << bit) + 3000 * place) | 1);
             }
@@ -214,14 +219,15 @@ fn first_slots_and_totals(author: &mut Author) {
             burst(author, 1);
         }
     }
-    let record = Record { queue: 0, size: 4096, head: 4095, posted: 4095, limit: 16_256 };
+    let counted = Record::counted(BEFORE, 4095);
+    let record = Record { queue: 0, size: 4096, head: 4095, limit: 16_256, ..counted };
     for place in 0..MOST {
         let flags = if place == MOST - 1 { 3 } else { 1 };
         written(author, &record, place, length(16_256) | flags);
     }
     author.rxset(record);
     burst(author, 1);
-    author.rxset(Record { posted: 5, ..record });
+    author.rxset(record.with_posted(5));
     burst(author, 2);
 }
 

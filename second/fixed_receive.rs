@@ -1,6 +1,7 @@
 //! The receive part of the fixed script: each limit at its ends and one past them, each bit.
 
 use crate::author::Author;
+use crate::fixed::BEFORE;
 use crate::receive::MOST_SLOTS;
 use crate::record::{Record, BUFFER, SIZE};
 
@@ -51,7 +52,8 @@ fn fresh(author: &mut Author) {
 fn damaged_records(author: &mut Author) {
     author.say("# receive: records handed in");
     for size in [32, 64, 4064, 4096] {
-        let good = Record { queue: 1, size, head: size / 2, posted: size / 2, limit: 2048 };
+        let counted = Record::counted(BEFORE, size / 2);
+        let good = Record { queue: 1, size, head: size / 2, limit: 2048, ..counted };
         let mut records = Vec::new();
         for queue in [0, 3, 4, u64::MAX] {
             records.push(Record { queue, ..good });
@@ -61,8 +63,8 @@ fn damaged_records(author: &mut Author) {
         }
         for number in [0, 1, size - 1, size, size + 1, u64::MAX - size + 1, u64::MAX] {
             records.push(Record { head: number, ..good });
-            records.push(Record { posted: number, ..good });
-            records.push(Record { head: number, posted: number, ..good });
+            records.push(good.with_posted(number));
+            records.push(Record { head: number, ..good.with_posted(number) });
         }
         for limit in [0, 1023, 1024, 1025, 1088, 16_256, 16_257, 16_384, u64::MAX] {
             records.push(Record { limit, ..good });
@@ -137,7 +139,8 @@ fn written(author: &mut Author, slot: u64, word0: u64, word1: u64) {
 
 /// A queue of 32 at this head with so many posted; each slot's companion address is its own.
 fn set(author: &mut Author, head: u64, posted: u64, buffer: u64) {
-    author.rxset(Record { queue: 2, size: 32, head, posted, limit: buffer });
+    let counted = Record::counted(BEFORE, posted);
+    author.rxset(Record { queue: 2, size: 32, head, limit: buffer, ..counted });
 }
 
 /// Each bit of both words set on a clear write-back, and clear on a full one.

@@ -1,6 +1,7 @@
 //! The transmit and interrupt parts of the fixed script.
 
 use crate::author::Author;
+use crate::fixed::BEFORE;
 use crate::interrupt::MOST_INTERVAL;
 use crate::layouts::{self, line, Place};
 use crate::record::{Record, FRAME, SIZE};
@@ -61,7 +62,8 @@ fn fresh(author: &mut Author) {
 fn damaged_records(author: &mut Author) {
     author.say("# transmit: records handed in");
     for size in [32, 64, 4064, 4096] {
-        let good = Record { queue: 1, size, head: size / 2, posted: size / 2, limit: 1518 };
+        let counted = Record::counted(BEFORE, size / 2);
+        let good = Record { queue: 1, size, head: size / 2, limit: 1518, ..counted };
         let mut records = Vec::new();
         for queue in [0, 3, 4, u64::MAX] {
             records.push(Record { queue, ..good });
@@ -71,8 +73,8 @@ fn damaged_records(author: &mut Author) {
         }
         for number in [0, 1, size - 1, size, size + 1, u64::MAX - size + 1, u64::MAX] {
             records.push(Record { head: number, ..good });
-            records.push(Record { posted: number, ..good });
-            records.push(Record { head: number, posted: number, ..good });
+            records.push(good.with_posted(number));
+            records.push(Record { head: number, ..good.with_posted(number) });
         }
         for limit in [0, 1517, 1518, 9728, 9729, u64::MAX] {
             records.push(Record { limit, ..good });
@@ -102,7 +104,7 @@ fn lent_lengths(author: &mut Author, good: Record) {
 /// A queue of 64 with nothing posted, the head going round from one send to the next.
 fn set(author: &mut Author, frame: u64) {
     let head = (author.bench.tx.record.head + 5) % 64;
-    author.txset(Record { queue: 2, size: 64, head, posted: 0, limit: frame });
+    author.txset(Record { queue: 2, size: 64, head, limit: frame, ..Record::counted(BEFORE, 0) });
 }
 
 /// Sends on an empty queue and sums what is lent, so that every written word is compared.
@@ -448,7 +450,8 @@ fn many_pieces(author: &mut Author) {
     for (turn, (count, posted)) in trials.iter().enumerate() {
         for narrow in [false, true] {
             let head = [0, 1, 2000, 4095, 17, 4000][turn];
-            author.txset(Record { queue: 0, size: 4096, head, posted: *posted, limit: 1518 });
+            let counted = Record::counted(BEFORE, *posted);
+            author.txset(Record { queue: 0, size: 4096, head, limit: 1518, ..counted });
             let send = layouts::many(&mut author.random, *count, narrow);
             author.say(line(&send));
             author.say("txtail");
@@ -474,7 +477,8 @@ fn room(author: &mut Author) {
                 [(size - 1 - need, false), (size - need, false), (size - 1 - need, true)]
             {
                 let head = (need * 11) % size;
-                author.txset(Record { queue: 1, size, head, posted, limit: 1518 });
+                let counted = Record::counted(BEFORE, posted);
+                author.txset(Record { queue: 1, size, head, limit: 1518, ..counted });
                 author.say(format!("txcount {head} {}", need));
                 let send = match segmented {
                     false => with(tcp(), &vec![60; need as usize]),
@@ -505,7 +509,8 @@ fn reclaims(author: &mut Author) {
     for posted in [0, 1, 2, 30, 31] {
         for count in [0, 1, 2, posted, posted + 1, 32, 65_535] {
             for head in [0, 15, 31] {
-                author.txset(Record { queue: 0, size: 32, head, posted, limit: 1518 });
+                let counted = Record::counted(BEFORE, posted);
+                author.txset(Record { queue: 0, size: 32, head, limit: 1518, ..counted });
                 author.say(format!("txcount {head} {count}"));
                 author.say(format!("txtoken {head} {}", 1000 * count + head));
                 let last = (head + count.max(1) - 1) % 32;
@@ -518,7 +523,8 @@ fn reclaims(author: &mut Author) {
     }
     for nibble in 0..16u64 {
         for rest in [0, u64::MAX << 4] {
-            author.txset(Record { queue: 0, size: 32, head: 30, posted: 5, limit: 1518 });
+            let counted = Record::counted(BEFORE, 5);
+            author.txset(Record { queue: 0, size: 32, head: 30, limit: 1518, ..counted });
             author.say("txcount 30 4");
             author.say("txpoke 61 15");
             author.say(format!("txpoke 3 {}", rest | nibble));
@@ -532,7 +538,8 @@ fn reclaims(author: &mut Author) {
 fn every_count(author: &mut Author) {
     for bit in 0..12 {
         for count in [1u64 << bit, 4095 & !(1 << bit)] {
-            author.txset(Record { queue: 0, size: 4096, head: 9, posted: 4095, limit: 1518 });
+            let counted = Record::counted(BEFORE, 4095);
+            author.txset(Record { queue: 0, size: 4096, head: 9, limit: 1518, ..counted });
             author.say(format!("txcount 9 {count}"));
             let last = (9 + count - 1) % 4096;
             author.say(format!("txpoke {} 15", 2 * last + 1));

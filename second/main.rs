@@ -1,5 +1,5 @@
-//! The second program: document 01's calls and 02's burst written a second time, from the documents
-//! alone, to be held against the proved library line by line.
+//! The second program: document 01's calls with 02's burst and counts, written a second time from
+//! the documents alone, to be held against the proved library line by line.
 
 mod aims;
 mod author;
@@ -10,9 +10,13 @@ mod burst_aims;
 mod burst_cover;
 mod burst_selftest;
 mod compare;
+mod count_aims;
+mod count_cover;
+mod count_selftest;
 mod cover;
 mod fixed;
 mod fixed_burst;
+mod fixed_counts;
 mod fixed_receive;
 mod fixed_transmit;
 mod interrupt;

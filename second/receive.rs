@@ -8,6 +8,10 @@ pub const MOST_SLOTS: usize = 5;
 
 pub const FIELDS: usize = 17;
 
+/// Why a post is answered 3.
+pub const NO_ROOM: [&str; 3] =
+    ["all but one slot posted", "no count left", "all but one slot posted and no count left"];
+
 /// The fields of a packet's last slot, in the order in which they print.
 pub const FIELD_NAMES: [&str; FIELDS] = [
     "VLAN",
@@ -47,12 +51,12 @@ pub fn judge_lent(record: &Record, ring: usize, list: usize) -> Judged<()> {
 pub fn post(record: Record, ring: &mut [u64], list: &mut [u64], address: u64) -> Judged<Record> {
     judge_lent(&record, ring.len(), list.len())?;
     judge_buffer(address, record.limit)?;
-    unless_broken(record.posted == record.size - 1, 3, "all but one slot posted")?;
+    record.judge_room(1, NO_ROOM)?;
     let tail = record.tail() as usize;
     ring[2 * tail] = address;
     ring[2 * tail + 1] = 0;
     list[tail] = address;
-    Ok(Record { posted: record.posted + 1, ..record })
+    Ok(record.posted_more(1))
 }
 
 pub fn take(record: Record, ring: &[u64], list: &[u64]) -> Judged<(Record, Packet)> {

@@ -52,7 +52,7 @@ pub fn fill(author: &mut Author) {
     }
     let mut record = author.bench.rx.record;
     if record.room() > 12 {
-        record.posted = record.size - 1 - author.random.below(4);
+        record = record.with_posted(record.size - 1 - author.random.below(4));
         author.rxset(record);
     }
     for _ in 0..5 {
@@ -198,7 +198,7 @@ pub fn stale(author: &mut Author) {
     }
     let record = author.bench.rx.record;
     let posted = author.random.below(4).min(record.posted);
-    author.rxset(Record { posted, ..record });
+    author.rxset(record.with_posted(posted));
     for distance in posted..posted + 5 {
         let eop = author.random.one_in(2);
         let bytes = length(&mut author.random, record.limit);
@@ -218,25 +218,26 @@ pub fn stale(author: &mut Author) {
 pub fn damaged(author: &mut Author) {
     let random = &mut author.random;
     let size = random.pick(&[32, 64, 4064, 4096]);
+    let posted = random.pick(&[0, size - 1, size / 2]);
     let mut record = Record {
         queue: random.below(4),
         size,
         head: random.pick(&[0, size - 1, size / 2]),
-        posted: random.pick(&[0, size - 1, size / 2]),
         limit: random.pick(&[1024, 2048, 16_256]),
+        ..random.counted(posted)
     };
     let (mut ring, mut list) = (2 * size, size);
     match random.below(9) {
         0 => record.queue = random.pick(&[4, 5, u64::MAX]),
         1 => record.size = random.pick(&[0, 16, 31, 33, 4095, 4097, 4128, 8160, u64::MAX]),
         2 => record.head = random.pick(&[size, size + 1, u64::MAX]),
-        3 => record.posted = random.pick(&[size, size + 1, u64::MAX]),
+        3 => record = record.with_posted(random.pick(&[size, size + 1, u64::MAX])),
         4 => record.limit = random.pick(&[0, 896, 1023, 1025, 16_255, 16_257, 16_384, u64::MAX]),
         5 => ring = random.pick(&[0, 2 * size - 1, 2 * size + 1, size, 16_384]),
         6 => list = random.pick(&[0, size - 1, size + 1, 8192]),
         7 => {
+            record = record.with_posted(random.any());
             record.head = random.any();
-            record.posted = random.any();
         }
         _ => {}
     }
@@ -244,7 +245,7 @@ pub fn damaged(author: &mut Author) {
     all_calls(author);
 }
 
-fn all_calls(author: &mut Author) {
+pub fn all_calls(author: &mut Author) {
     let address = author.random.address(1024);
     author.say("rxtail");
     author.say("rxreg");

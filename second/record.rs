@@ -1,4 +1,4 @@
-//! The queue record of document 01, alike for both directions, and the refusals.
+//! The queue record of document 01 with 02's counts, alike for both directions, and the refusals.
 
 /// Document 01's number of a refused call, and the clause that was broken.
 /// Only the number is ever compared; the clause feeds the coverage table.
@@ -36,6 +36,10 @@ pub struct Record {
     pub size: u64,
     pub head: u64,
     pub posted: u64,
+    /// Slots ever posted.
+    pub ever_posted: u64,
+    /// Slots ever handed back.
+    pub ever_returned: u64,
     pub limit: u64,
 }
 
@@ -48,6 +52,9 @@ pub struct Line {
 }
 
 pub const MOST_QUEUE: u64 = 3;
+
+/// The end of both counts, 2^64 - 1.
+pub const MOST_EVER: u64 = u64::MAX;
 
 pub const SIZE: Line = Line {
     lower: 32,
@@ -95,12 +102,35 @@ impl Record {
         SIZE.judge(self.size)?;
         unless_broken(self.head >= self.size, 1, "head not below size")?;
         unless_broken(self.posted > self.size - 1, 1, "posted above size - 1")?;
-        direction.limit_line().judge(self.limit)
+        direction.limit_line().judge(self.limit)?;
+        self.judge_counts()
+    }
+
+    /// Posted is the difference of the counts in plain numbers, so this is a sum, and a wide one: a
+    /// difference would wrap where more came back than was ever posted.
+    fn judge_counts(&self) -> Judged<()> {
+        let returned_or_posted = u128::from(self.ever_returned) + u128::from(self.posted);
+        let ever_posted = u128::from(self.ever_posted);
+        let wraps = self.ever_posted.wrapping_sub(self.ever_returned) == self.posted;
+        let more_returned = self.ever_returned > self.ever_posted;
+        unless_broken(more_returned && wraps, 1, "counts whose difference wraps to posted")?;
+        unless_broken(more_returned, 1, "more ever returned than ever posted")?;
+        unless_broken(returned_or_posted < ever_posted, 1, "posted below the counts' difference")?;
+        unless_broken(returned_or_posted > ever_posted, 1, "posted above the counts' difference")
+    }
+
+    /// Whether so many more slots may be posted: the ring has room for them, and the count.
+    /// The causes stand for no room on the ring, none in the count, and neither.
+    pub fn judge_room(&self, slots: u64, causes: [&'static str; 3]) -> Judged<()> {
+        let (no_slot, no_count) = (slots > self.room(), slots > self.count_room());
+        unless_broken(no_slot && no_count, 3, causes[2])?;
+        unless_broken(no_slot, 3, causes[0])?;
+        unless_broken(no_count, 3, causes[1])
     }
 
     /// A fresh queue judges only the numbers that it is asked with.
     pub fn fresh(direction: Direction, queue: u64, size: u64, limit: u64) -> Judged<Record> {
-        let record = Record { queue, size, head: 0, posted: 0, limit };
+        let record = Record { queue, size, limit, ..Record::default() };
         record.judge(direction)?;
         Ok(record)
     }
@@ -114,14 +144,51 @@ impl Record {
         (self.head + self.posted) % self.size
     }
 
-    /// Slots that may still be handed to the device.
+    /// Slots that the ring has room for.
     pub fn room(&self) -> u64 {
         self.size - 1 - self.posted
     }
 
-    /// The record once the oldest `count` posted slots came back.
+    /// Slots that the count of those ever posted has room for.
+    pub fn count_room(&self) -> u64 {
+        MOST_EVER - self.ever_posted
+    }
+
+    /// The record once `slots` more were posted.
+    pub fn posted_more(&self, slots: u64) -> Record {
+        let (posted, ever_posted) = (self.posted + slots, self.ever_posted + slots);
+        Record { posted, ever_posted, ..*self }
+    }
+
+    /// The record once the oldest `count` posted slots came back. Of a judged record, what is ever
+    /// returned stays at most what was ever posted, so it does not pass its end.
     pub fn moved_on(&self, count: u64) -> Record {
-        Record { head: self.slot(count) as u64, posted: self.posted - count, ..*self }
+        Record {
+            head: self.slot(count) as u64,
+            posted: self.posted - count,
+            ever_returned: self.ever_returned + count,
+            ..*self
+        }
+    }
+
+    /// A record's posted and counts alone: so many slots posted after so many were handed back.
+    /// Fewer were handed back where the count of those ever posted would pass its end.
+    pub fn counted(ever_returned: u64, posted: u64) -> Record {
+        let ever_returned = ever_returned.min(MOST_EVER - posted);
+        let ever_posted = ever_returned + posted;
+        Record { posted, ever_posted, ever_returned, ..Record::default() }
+    }
+
+    /// The record with another number posted, and counts that agree with it.
+    pub fn with_posted(&self, posted: u64) -> Record {
+        let Record { queue, size, head, limit, .. } = *self;
+        Record { queue, size, head, limit, ..Record::counted(self.ever_returned, posted) }
+    }
+
+    /// The record with counts that have room for so many slots more.
+    pub fn with_count_room(&self, room: u64) -> Record {
+        let ever_posted = MOST_EVER - room;
+        Record { ever_posted, ever_returned: ever_posted - self.posted, ..*self }
     }
 
     pub fn tail_value(&self, direction: Direction) -> Judged<u64> {

@@ -107,11 +107,13 @@ const fn form(name: &'static str, numbers: usize) -> Form {
 }
 
 const SEND_NUMBERS: usize = 13;
+/// A record's numbers; the lent lengths follow them.
+const RECORD_NUMBERS: usize = 7;
 
 /// Each line's word, and how many numbers follow (`send`: before its addresses).
 const FORMS: [Form; 22] = [
     form("rx", 3),
-    form("rxset", 7),
+    form("rxset", RECORD_NUMBERS + 2),
     form("rxpoke", 2),
     form("rxlist", 2),
     form("post", 1),
@@ -122,7 +124,7 @@ const FORMS: [Form; 22] = [
     form("rxreg", 0),
     form("rxsum", 0),
     form("tx", 3),
-    form("txset", 8),
+    form("txset", RECORD_NUMBERS + 3),
     form("txpoke", 2),
     form("txtoken", 2),
     form("txcount", 2),
@@ -163,7 +165,7 @@ fn command(name: &str, n: &[u64]) -> Result<Command, Bad> {
     Ok(match name {
         "rx" => Command::Rx { queue: n[0], size: n[1], buffer: n[2] },
         "rxset" => {
-            Command::RxSet { record: record(n), ring: lent(n[5], RING)?, list: lent(n[6], LIST)? }
+            Command::RxSet { record: record(n), ring: lent(n[7], RING)?, list: lent(n[8], LIST)? }
         }
         "rxpoke" => Command::RxPoke { index: index(n[0], RING)?, value: n[1] },
         "rxlist" => Command::RxList { index: index(n[0], LIST)?, value: n[1] },
@@ -177,9 +179,9 @@ fn command(name: &str, n: &[u64]) -> Result<Command, Bad> {
         "tx" => Command::Tx { queue: n[0], size: n[1], frame: n[2] },
         "txset" => Command::TxSet {
             record: record(n),
-            ring: lent(n[5], RING)?,
-            tokens: lent(n[6], LIST)?,
-            counts: lent(n[7], LIST)?,
+            ring: lent(n[7], RING)?,
+            tokens: lent(n[8], LIST)?,
+            counts: lent(n[9], LIST)?,
         },
         "txpoke" => Command::TxPoke { index: index(n[0], RING)?, value: n[1] },
         "txtoken" => Command::TxToken { index: index(n[0], LIST)?, value: n[1] },
@@ -194,7 +196,16 @@ fn command(name: &str, n: &[u64]) -> Result<Command, Bad> {
 }
 
 fn record(n: &[u64]) -> Record {
-    Record { queue: n[0], size: n[1], head: n[2], posted: n[3], limit: n[4] }
+    let (ever_posted, ever_returned) = (n[4], n[5]);
+    Record {
+        queue: n[0],
+        size: n[1],
+        head: n[2],
+        posted: n[3],
+        ever_posted,
+        ever_returned,
+        limit: n[6],
+    }
 }
 
 fn lent(value: u64, held: u64) -> Result<usize, Bad> {

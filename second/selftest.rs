@@ -1,5 +1,5 @@
-//! The program's own checks: the paper's examples, answer 8 against a count byte by byte, and the
-//! burst's.
+//! The program's own checks: the paper's examples, answer 8 against a count byte by byte, and those
+//! of the burst and of the counts.
 
 use crate::author::Random;
 use crate::interrupt;
@@ -8,7 +8,7 @@ use crate::receive::{self, FIELD_NAMES};
 use crate::record::{bits, Direction, Record};
 use crate::segments;
 use crate::transmit::{self, Lent, Send};
-use crate::{aims, answers, burst_selftest, compare, fixed};
+use crate::{aims, answers, burst_selftest, compare, count_selftest, fixed};
 use std::process::exit;
 
 pub struct Checks {
@@ -36,6 +36,7 @@ pub fn run() {
     touched_twice(&mut checks);
     read_back(&mut checks);
     burst_selftest::all(&mut checks);
+    count_selftest::all(&mut checks);
     script_lines(&mut checks);
     scripts(&mut checks);
     println!("selftest: {} checks, {} failed", checks.made, checks.failed);
@@ -222,10 +223,10 @@ fn script_lines(checks: &mut Checks) {
     checks.equal("bad numbers", said("\n\nx\n# x\n y"), "bad 3\nbad 5\n".to_string());
     checks.equal("no line end", said("rxsum"), "rxsum 0 0\n".to_string());
     checks.equal("carriage return", said("rxsum\r\n"), "bad 1\n".to_string());
-    let fresh = "rx 0 3 32 0 0 1024\n".to_string();
+    let fresh = "rx 0 3 32 0 0 0 0 1024\n".to_string();
     checks.equal("twenty digits", said("rx 3 00000000000000000032 1024"), fresh);
     checks.equal("twenty-one", said("rx 3 000000000000000000032 1024"), "bad 1\n".to_string());
-    let sum = "rxset 0 0 0 0 0 2 1\nrxpoke 0 1\nrxpoke 1 2\nrxlist 0 9\nrxsum";
+    let sum = "rxset 0 0 0 0 0 0 0 2 1\nrxpoke 0 1\nrxpoke 1 2\nrxlist 0 9\nrxsum";
     checks.equal("sum", said(sum), "rxsum 130 9\n".to_string());
 }
 

@@ -24,8 +24,14 @@ pub const MOST_TLEN: u64 = 262_143;
 pub const LEAST_MSS: u64 = 88;
 pub const MOST_TAG: u64 = 65_535;
 
+/// Why a send is answered 3.
+pub const NO_ROOM_PLAIN: [&str; 3] =
+    ["no room, plain", "no count room, plain", "no room and no count room, plain"];
+pub const NO_ROOM_SEGMENTED: [&str; 3] =
+    ["no room, segmented", "no count room, segmented", "no room and no count room, segmented"];
+
 /// A send: token, offload request and pieces. `ip` and `l4` are the codes of IIPT and L4T.
-#[derive(Clone, Debug, Default)]
+#[derive(Clone, Debug, Default, PartialEq, Eq)]
 pub struct Send {
     pub token: u64,
     pub ip: u64,
@@ -169,9 +175,8 @@ impl Send {
         self.judge_addresses()?;
         self.judge_offload(record.limit)?;
         self.judge_segments()?;
-        let full = self.slots() > record.room();
-        unless_broken(full && self.segmented, 3, "no room, segmented")?;
-        unless_broken(full, 3, "no room, plain")
+        let causes = if self.segmented { NO_ROOM_SEGMENTED } else { NO_ROOM_PLAIN };
+        record.judge_room(self.slots(), causes)
     }
 
     /// The packet's descriptors in ring order, two words each.
@@ -239,7 +244,7 @@ pub fn send(record: Record, lent: &mut Lent, request: &Send) -> Judged<(Record, 
     let first = record.tail() as usize;
     lent.tokens[first] = request.token;
     lent.counts[first] = slots as u16;
-    Ok((Record { posted: record.posted + slots, ..record }, slots))
+    Ok((record.posted_more(slots), slots))
 }
 
 /// A packet that is done gives the record, its token and its slot count.

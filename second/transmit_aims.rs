@@ -38,7 +38,7 @@ pub fn refused_fresh(author: &mut Author) {
     author.say_padded(&format!("tx {queue} {size} {frame}"));
 }
 
-fn frame(author: &Author) -> u64 {
+pub fn frame(author: &Author) -> u64 {
     author.bench.tx.record.limit.max(FRAME.lower).min(FRAME.upper)
 }
 
@@ -76,7 +76,8 @@ pub fn many(author: &mut Author) {
     let posted = author.random.pick(&[0, 0, 0, 1]);
     let size = author.random.pick(&[4096, 4096, 4096, 4064]);
     let queue = author.random.below(4);
-    author.txset(Record { queue, size, head: head % size, posted, limit: 1518 });
+    let counted = author.random.counted(posted);
+    author.txset(Record { queue, size, head: head % size, limit: 1518, ..counted });
     author.say(layouts::line(&send));
     author.say("txtail");
     author.say("txsum");
@@ -245,7 +246,7 @@ pub fn muddled(author: &mut Author) {
 }
 
 /// The device marks the oldest packet as done.
-fn mark_oldest(author: &mut Author) {
+pub fn mark_oldest(author: &mut Author) {
     let tx = &author.bench.tx;
     if !author.sound(Direction::Transmit) || tx.record.posted == 0 {
         return;
@@ -318,7 +319,8 @@ pub fn fill(author: &mut Author) {
         layouts::segmented(random, record.limit)
     };
     if send.slots() < record.size {
-        record.posted = (record.size - 1).saturating_sub(random.between(0, send.slots() + 2));
+        let free = random.between(0, send.slots() + 2);
+        record = record.with_posted((record.size - 1).saturating_sub(free));
         author.txset(record);
         author.say(format!("txcount {} {}", record.head, author.bench.tx.record.posted.min(9)));
     }
@@ -335,28 +337,28 @@ pub fn fill(author: &mut Author) {
 /// A record handed in with one number at an end, or one past it.
 pub fn damaged(author: &mut Author) {
     let size = author.random.pick(&[32, 64, 4064, 4096]);
-    let queue = author.random.below(4);
     let random = &mut author.random;
+    let posted = random.pick(&[0, size - 1, size / 2]);
     let mut record = Record {
-        queue,
+        queue: random.below(4),
         size,
         head: random.pick(&[0, size - 1, size / 2]),
-        posted: random.pick(&[0, size - 1, size / 2]),
         limit: random.pick(&[1518, 9728]),
+        ..random.counted(posted)
     };
     let mut lent = [2 * size, size, size];
     match random.below(10) {
         0 => record.queue = random.pick(&[4, 5, u64::MAX]),
         1 => record.size = random.pick(&[0, 16, 31, 33, 4095, 4097, 4128, 8160, u64::MAX]),
         2 => record.head = random.pick(&[size, size + 1, u64::MAX]),
-        3 => record.posted = random.pick(&[size, size + 1, u64::MAX]),
+        3 => record = record.with_posted(random.pick(&[size, size + 1, u64::MAX])),
         4 => record.limit = random.pick(&[0, 1517, 9729, u64::MAX]),
         5 => lent[0] = random.pick(&[0, 2 * size - 1, 2 * size + 1, size, 16_384]),
         6 => lent[1] = random.pick(&[0, size - 1, size + 1, 8192]),
         7 => lent[2] = random.pick(&[0, size - 1, size + 1, 8192]),
         8 => {
+            record = record.with_posted(random.any());
             record.head = random.any();
-            record.posted = random.any();
         }
         _ => {}
     }
@@ -364,7 +366,7 @@ pub fn damaged(author: &mut Author) {
     all_calls(author);
 }
 
-fn all_calls(author: &mut Author) {
+pub fn all_calls(author: &mut Author) {
     let send = layouts::plain(&mut author.random, 1518);
     author.say("txtail");
     author.say("txreg");

@@ -1,8 +1,8 @@
--- A burst counts as its takes, and so demand 3 carries over to histories with bursts. Assumes nothing.
+-- A burst counts as its takes, and so demand 3 and the console's law carry over to histories with bursts. Assumes nothing.
 use Prim.Native.Nat.{ℕ, zero, suc}
 use mathlib.Core.Path.{_≡_, refl, sym, ap, _∙_}
 use mathlib.Core.Bool.{Bool, true, false, cond}
-use mathlib.Core.List.{List, [], _∷_, _++_, map, append-assoc, append-nil}
+use mathlib.Core.List.{List, [], _∷_, _++_, map, append-nil}
 use borrow.Author.Tests.{eq-eqb, ne-eqb}
 use lib.Dec.{eqb}
 use lib.ListN.{length, drop, replicate}
@@ -16,10 +16,11 @@ use Rattle.receive.specs.Burst.{Made, takesFrom, carried, handing, told, burstO
 use Rattle.receive.proofs.Takes.{hands-up}
 use Rattle.receive.proofs.Turns.{takenOn, by-takes}
 use Rattle.receive.proofs.Bursts.{of-made, four-again}
-use Rattle.history.specs.World.{World, poll, Reply, posted, taken, takeAt, after, reply, end, replies, AllAllowed, Start}
+use Rattle.history.specs.World.{World, poll, Reply, taken, takeAt, after, reply, end, replies, AllAllowed, Start}
 use Rattle.history.specs.History.{ifDone, packetsIn, handedUp}
-use Rattle.history.proofs.Late.{end-append, replies-append, allowed-append}
+use Rattle.history.proofs.Late.{end-append, replies-append, in-append, allowed-append}
 use Rattle.history.proofs.Demand.{demand3}
+use Rattle.history.proofs.Figures.{console}
 use Rattle.bursts.specs.Acts.{Act, event, burst, madeAt, burstAt, withQueue, packetAt, packetsTold, afterAct, upBy, asEvents, ActAllowed, endOf, allUp, spread, ActsAllowed}
 use Rattle.bursts.specs.Demand.{AsTakes, BurstDemand}
 
@@ -133,12 +134,6 @@ module _ (w : World) where
 
 -- ---- a list of acts
 
-in-append : (rs qs : List Reply) → packetsIn (rs ++ qs) ≡ packetsIn rs ++ packetsIn qs
-unfolding packetsIn
-in-append [] qs = refl
-in-append (posted r ∷ rs) qs = in-append rs qs
-in-append (taken r ∷ rs) qs = rw (in-append rs qs, append-assoc)
-
 same-end : (w : World) (acts : List Act) → endOf w acts ≡ end w (spread w acts)
 unfolding endOf spread end
 same-end w [] = refl
@@ -177,6 +172,7 @@ burst-demand w acts f h =
       samePackets = same-packets w acts;
       allowed = s;
       demand = d;
+      console = console w (spread w acts) f s;
       notYet =
           λ before out limit last e.
           let at : end w (spread w acts) ≡ afterAct (endOf w before) (burst out limit) = sym (same-end w acts) ∙ rw last (end-last w before (burst out limit)) in

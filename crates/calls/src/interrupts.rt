@@ -24,5 +24,5 @@ pub(crate) fn word(given: Given) -> Row {
         index: given.n6,
         interval: given.n7,
     });
-    row_of(3, answer.answer as u64, answer.offset, answer.word, 0, 0, 0)
+    row_of(&[answer.answer as u64, answer.offset, answer.word])
 }

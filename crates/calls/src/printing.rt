@@ -34,7 +34,7 @@ pub fn print(
     next: usize,
 ) -> usize {
     if bad {
-        put(b"bad", row_of(1, number, 0, 0, 0, 0, 0), out, next)
+        put(b"bad", row_of(&[number]), out, next)
     } else {
         put(first_word(line, text), row, out, next)
     }

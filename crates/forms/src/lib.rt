@@ -38,14 +38,14 @@ fn pieces_end(addresses: u64, lengths: u64) -> u64 {
 fn count_of(command: Command, given: Given) -> u64 {
     match command {
         Command::Rx => 3,
-        Command::RxSet => 7,
+        Command::RxSet => 9,
         Command::RxPoke => 2,
         Command::RxList => 2,
         Command::Post => 1,
         Command::Out => 2,
         Command::Burst => 2,
         Command::Tx => 3,
-        Command::TxSet => 8,
+        Command::TxSet => 10,
         Command::TxPoke => 2,
         Command::TxToken => 2,
         Command::TxCount => 2,
@@ -56,7 +56,7 @@ fn count_of(command: Command, given: Given) -> u64 {
 }
 
 fn is_txset(given: Given) -> bool {
-    (given.n5 <= RING as u64) & (given.n6 <= SLOTS as u64) & (given.n7 <= SLOTS as u64)
+    (given.n7 <= RING as u64) & (given.n8 <= SLOTS as u64) & (given.n9 <= SLOTS as u64)
 }
 
 fn is_send(given: Given) -> bool {
@@ -76,7 +76,7 @@ fn is_int(given: Given) -> bool {
 fn in_range(command: Command, given: Given) -> bool {
     match command {
         Command::Unknown => false,
-        Command::RxSet => (given.n5 <= RING as u64) & (given.n6 <= SLOTS as u64),
+        Command::RxSet => (given.n7 <= RING as u64) & (given.n8 <= SLOTS as u64),
         Command::RxPoke => given.n0 < RING as u64,
         Command::RxList => given.n0 < SLOTS as u64,
         Command::Out => given.n0 < OUT as u64,

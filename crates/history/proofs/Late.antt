@@ -19,12 +19,12 @@ use Rattle.scan.specs.Slots.{Slot}
 use Rattle.receive.specs.Post.{postAnswer, blank, oneMore}
 use Rattle.scan.specs.Scan.{refuse, whole}
 use Rattle.receive.specs.Take.{packetOf}
-use Rattle.history.specs.World.{World, Event, post, poll, write, postAt, partAfter, after, reply, Allowed, end, replies, AllAllowed}
-use Rattle.history.specs.History.{filled, packets}
+use Rattle.history.specs.World.{World, Event, post, poll, write, Reply, posted, taken, postAt, partAfter, after, reply, Allowed, end, replies, AllAllowed}
+use Rattle.history.specs.History.{filled, packets, packetsIn}
 use Rattle.history.specs.Late.{lateFrom, NoneLeft, JustBefore}
 use Rattle.history.proofs.Lists.{LegalWords, openAfter, filled-short, Cut, cut, cut-first, legal-append, legal-split}
 use Rattle.history.proofs.Ring.{pair}
-use Rattle.history.proofs.State.{seen, placed, moved, stored, after-accepted, after-refused, after-none, take-none, after-some, take-some, Fit, fit-shared, room, Holds, holds-count, holds-write, holds-take, seen-first}
+use Rattle.history.proofs.State.{seen, placed, moved, stored, after-accepted, after-refused, after-none, take-none, after-some, take-some, fit-shared, room, Holds, holds-count, holds-write, holds-take, seen-first}
 use Rattle.history.proofs.Run.{post-holds}
 
 -- ---- two lists of events, one after the other
@@ -38,6 +38,12 @@ pub replies-append : (w : World) (xs ys : List Event) → replies w (xs ++ ys) �
 unfolding end replies
 replies-append w [] ys = refl
 replies-append w (e ∷ xs) ys = rw (replies-append (after w e) xs ys, append-assoc)
+
+pub in-append : (rs qs : List Reply) → packetsIn (rs ++ qs) ≡ packetsIn rs ++ packetsIn qs
+unfolding packetsIn
+in-append [] qs = refl
+in-append (posted r ∷ rs) qs = in-append rs qs
+in-append (taken r ∷ rs) qs = rw (in-append rs qs, append-assoc)
 
 pub allowed-append : (w : World) (xs ys : List Event) → AllAllowed w xs → AllAllowed (end w xs) ys → AllAllowed w (xs ++ ys)
 unfolding end

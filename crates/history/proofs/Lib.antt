@@ -5,4 +5,5 @@ pub mod Run
 pub mod Late
 pub mod Demand
 pub mod Stale
+pub mod Figures
 pub mod Examples

@@ -6,7 +6,6 @@ use mathlib.Core.Path.{_≡_, refl, _∙_}
 use mathlib.Core.Bool.{Bool, true, false, cond}
 use mathlib.Core.Logic.{_⊎_, inl, inr}
 use mathlib.Core.List.{List, [], _∷_, _++_, map, append-assoc, append-nil, map-append}
-use lib.Dec.{eqb}
 use lib.ListN.{length, drop}
 use Rattle.rules.specs.Address.{addressWrong}
 use Rattle.ring.specs.Queue.{noRoom}

@@ -16,6 +16,7 @@ use Rattle.history.specs.History.{ifDone, completed, handedUp}
 use Rattle.history.specs.Late.{late}
 use Rattle.history.specs.Demand.{Unreturned, slotNo}
 use Rattle.history.specs.Stale.{row}
+use Rattle.history.specs.Figures.{shown}
 
 abbrev pub start : World
 start =
@@ -128,6 +129,9 @@ pub record Laps : Type 0 where
   -- each packet comes up once, in order, with its buffers; every other take says 4
   pub handed-up : handedUp start lapped ≡ map packetOf (single ++ full ++ rest)
   pub says : map numberOf (replies start lapped) ≡ oneByOneSays (row single) ++ atOnceSays full ++ oneByOneSays (row rest)
+  -- so many slots were posted and handed back, two laps of each; none at the start
+  pub none-shown : shown start ≡ record { posted = 0; returned = 0 }
+  pub all-shown : shown (end start lapped) ≡ record { posted = 64; returned = 64 }
   -- old write-backs stand in every slot at the start, behind the first 31 slots and at the end
   pub old-at-start : AllWritten start
   pub old-between : AllWritten (end start (oneByOne (row single)))

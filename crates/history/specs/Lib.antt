@@ -3,4 +3,5 @@ pub mod History
 pub mod Late
 pub mod Demand
 pub mod Stale
+pub mod Figures
 pub mod Examples

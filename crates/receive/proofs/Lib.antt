@@ -6,3 +6,4 @@ pub mod Takes
 pub mod Turns
 pub mod Bursts
 pub mod Causes
+pub mod Counts

@@ -9,9 +9,12 @@ use script::Given;
 use script::RING;
 use script::Row;
 use script::SLOTS;
+use script::fresh_row;
 use script::lent;
 use script::no_row;
 use script::poke;
+use script::queue_of;
+use script::queue_row;
 use script::row_of;
 use sum::sum_of;
 
@@ -27,22 +30,13 @@ pub struct Received {
     pub row: Row,
 }
 
-fn record(queue: u64, size: u64, head: u64, posted: u64, buffer: u64) -> RxQueue {
-    RxQueue {
-        shared: Queue {
-            queue: queue as usize,
-            size: size as usize,
-            head: head as usize,
-            posted: posted as usize,
-        },
-        buffer: buffer as usize,
-    }
-}
-
 // Nothing asked for yet, and nothing lent.
 pub fn none() -> Rx {
     Rx {
-        queue: record(0, 0, 0, 0, 0),
+        queue: RxQueue {
+            shared: Queue::empty(0, 0),
+            buffer: 0,
+        },
         ring: 0,
         list: 0,
     }
@@ -51,9 +45,12 @@ pub fn none() -> Rx {
 // The record and the lent lengths that a line hands in.
 fn handed(given: Given) -> Rx {
     Rx {
-        queue: record(given.n0, given.n1, given.n2, given.n3, given.n4),
-        ring: given.n5 as usize,
-        list: given.n6 as usize,
+        queue: RxQueue {
+            shared: queue_of(given),
+            buffer: given.n6 as usize,
+        },
+        ring: given.n7 as usize,
+        list: given.n8 as usize,
     }
 }
 
@@ -79,40 +76,22 @@ fn begun(answer: u8, queue: RxQueue, rx: Rx) -> Rx {
     }
 }
 
-fn fresh_row(answer: u8, queue: RxQueue) -> Row {
-    row_of(
-        6,
-        answer as u64,
-        queue.shared.queue as u64,
-        queue.shared.size as u64,
-        queue.shared.head as u64,
-        queue.shared.posted as u64,
-        queue.buffer as u64,
-    )
-}
-
 fn fresh(given: Given, rx: Rx) -> Received {
     let fresh = RxQueue::fresh(given.n0 as usize, given.n1 as usize, given.n2 as usize);
     let queue = fresh.queue;
+    let shared = queue.shared;
     Received {
         rx: begun(fresh.answer, queue, rx),
-        row: fresh_row(fresh.answer, queue),
+        row: fresh_row(fresh.answer, shared, queue.buffer),
     }
 }
 
 fn posted(rx: Rx, posted: Posted) -> Received {
     let queue = posted.queue;
+    let shared = queue.shared;
     Received {
         rx: with(rx, queue),
-        row: row_of(
-            3,
-            posted.answer as u64,
-            queue.shared.head as u64,
-            queue.shared.posted as u64,
-            0,
-            0,
-            0,
-        ),
+        row: queue_row(posted.answer, shared),
     }
 }
 
@@ -126,14 +105,14 @@ fn post(rx: Rx, address: u64, ring: &mut [u64], list: &mut [u64]) -> Received {
 fn asked(rx: Rx, asked: Asked) -> Received {
     Received {
         rx,
-        row: row_of(2, asked.answer as u64, asked.value as u64, 0, 0, 0, 0),
+        row: row_of(&[asked.answer as u64, asked.value as u64]),
     }
 }
 
 fn sums(rx: Rx, ring: &[u64], list: &[u64]) -> Received {
     Received {
         rx,
-        row: row_of(2, sum_of(ring, rx.ring), sum_of(list, rx.list), 0, 0, 0, 0),
+        row: row_of(&[sum_of(ring, rx.ring), sum_of(list, rx.list)]),
     }
 }
 

@@ -1,18 +1,18 @@
--- The counts of a queue record: the code's tests, which never wrap, are those of the definitions; and how the counts move.
+-- The counts of a queue record: the code's tests are those of the definitions; the room that they leave; and how they move.
 -- Assumes nothing.
 use Prim.Native.Nat.{ℕ, _+_, _-_, _%_, _^_, _≤_, _<_}
-use mathlib.Core.Path.{_≡_, refl, sym, _∙_}
+use mathlib.Core.Path.{_≡_, refl, sym, ap, _∙_}
 use mathlib.Core.Bool.{Bool, true, false, _&&_, _||_, true≢false, false≢true}
+use native.Mathlib.Nat.{add-zero}
 use native.Mathlib.Omega.{arith}
 use borrow.Author.Tests.{le-leb, leb-true, le-ltb, ltb-true, ltb-false, eq-eqb, ne-eqb, eqb-true, eqb-false}
 use lib.Dec.{leb, ltb, eqb}
-use native.Mathlib.Nat.{add-zero}
 use Rattle.rules.proofs.Tests.{both, and-both, same, ltb-same}
 use Rattle.ring.specs.declared.Queue.{Queue}
 use Rattle.ring.specs.Sizes.{mostCount}
-use Rattle.ring.specs.Queue.{everPosted, everReturned, Shared, freeSlots, noRoom, advanced, grown}
+use Rattle.ring.specs.Queue.{everPosted, Shared, freeSlots, noRoom, advanced, grown}
 use Rattle.ring.specs.Steps.{Grow}
-use Rattle.ring.specs.Counts.{CountsMove}
+use Rattle.ring.specs.Counts.{Figures, figuresOf, Moved}
 
 -- ---- the tests
 
@@ -40,6 +40,8 @@ neither : (a b : Bool) → a || b ≡ false → (a ≡ false) × (b ≡ false)
 neither true b e = absurd (true≢false e)
 neither false b e = (refl, e)
 
+-- ---- the room
+
 -- where there is room, on the ring and in the count
 pub grows : (q : Queue) (n : ℕ) → Shared q → noRoom q n ≡ false → Grow q n
 grows q n s e =
@@ -55,20 +57,21 @@ no-room-one q s h =
     let p : q .posted ≤ q .size - 1 = omega (arith, s .posted-below) in
     rw (by-rest 1 (q .size - 1) (q .posted) p, at-most (q .posted) (q .size - 1) p, at-most (everPosted q) mostCount h)
 
--- ---- how the counts move
+-- ---- how the figures move
 
-pub counts-stay : (q : Queue) → CountsMove q q 0 0
-counts-stay q = record { posted-more = sym (add-zero _); returned-more = sym (add-zero _) }
+pub stay : (q : Queue) → Moved q q 0 0
+stay q = record { posted-more = sym (add-zero _); returned-more = sym (add-zero _) }
 
-pub counts-grown : (q : Queue) (n : ℕ) → CountsMove q (grown q n) n 0
-counts-grown q n = record { posted-more = refl; returned-more = sym (add-zero _) }
+pub by-grown : (q : Queue) (n : ℕ) → Moved q (grown q n) n 0
+by-grown q n = record { posted-more = refl; returned-more = sym (add-zero _) }
 
-pub counts-advanced : (q : Queue) (n : ℕ) → CountsMove q (advanced q n) 0 n
-counts-advanced q n = record { posted-more = sym (add-zero _); returned-more = refl }
+pub by-advanced : (q : Queue) (n : ℕ) → Moved q (advanced q n) 0 n
+by-advanced q n = record { posted-more = sym (add-zero _); returned-more = refl }
 
-pub counts-on : {a b c : Queue} {n m n′ m′ : ℕ} → CountsMove a b n m → CountsMove b c n′ m′ → CountsMove a c (n + n′) (m + m′)
-counts-on f g = record { posted-more = omega (arith, f .posted-more, g .posted-more); returned-more = omega (arith, f .returned-more, g .returned-more) }
+pub moved-both : {a b c : Queue} {n m n′ m′ : ℕ} → Moved a b n m → Moved b c n′ m′ → Moved a c (n + n′) (m + m′)
+moved-both f g = record { posted-more = omega (arith, f .posted-more, g .posted-more); returned-more = omega (arith, f .returned-more, g .returned-more) }
 
--- equal counts mean equal posted, in two records that keep the lines
-pub same-posted : {a b : Queue} → Shared a → Shared b → everPosted b ≡ everPosted a → everReturned b ≡ everReturned a → b .posted ≡ a .posted
-same-posted s t e f = omega (arith, s .counted, t .counted)
+-- figures that stand moved by nothing
+pub none-moved : {a b : Queue} {n m : ℕ} → Moved a b n m → figuresOf b ≡ figuresOf a → (n ≡ 0) × (m ≡ 0)
+none-moved f e =
+    (omega (arith, f .posted-more, ap (λ (x : Figures). x .posted) e), omega (arith, f .returned-more, ap (λ (x : Figures). x .returned) e))

@@ -1,12 +1,12 @@
 -- The shared part of a queue record: what its test says, what keeps it, whose the slots are, and what is asked of it.
 -- Assumes nothing.
-use Prim.Native.Nat.{ℕ, _+_, _-_, _^_, _≤_, _<_}
+use Prim.Native.Nat.{ℕ, _+_, _^_, _≤_, _<_}
 use mathlib.Core.Path.{_≡_, refl}
 use mathlib.Core.Bool.{Bool, true, false, not, _&&_}
 use mathlib.Core.List.{[], _∷_}
 use native.Mathlib.Omega.{arith}
 use borrow.Author.Tests.{lt-ltb, le-ltb, eq-eqb, ltb-true, leb-true, eqb-true}
-use lib.Dec.{leb, ltb, eqb}
+use lib.Dec.{leb, ltb}
 use Rattle.rules.specs.Rules.{inSteps, _when_, answerOf}
 use Rattle.rules.proofs.Tests.{both, steps-is}
 use Rattle.rules.proofs.Checks.{one-check}
@@ -30,6 +30,10 @@ moved-on {q} s n p =
       posted-below = omega (arith, s .posted-below);
       counted = omega (arith, s .counted);
     }
+
+-- the facts give the test back, with that of queue number and size, whose step they leave out
+keeps : (q : Queue) → queueOk (q .queue) (q .size) ≡ true → Shared q → sharedOk q ≡ true
+keeps q e s = rw (e, lt-ltb _ _ (s .head-below), lt-ltb _ _ (s .posted-below), eq-eqb _ _ (s .counted))
 
 module _ (q : Queue) (ok : sharedOk q ≡ true) where
   abbrev numbers : Bool
@@ -59,16 +63,12 @@ module _ (q : Queue) (ok : sharedOk q ≡ true) where
         counted = eqb-true _ _ (l .1);
       }
 
-  -- another record of the same numbers that keeps the lines as facts
-  again : (q′ : Queue) → queueOk (q′ .queue) (q′ .size) ≡ true → Shared q′ → sharedOk q′ ≡ true
-  again q′ e s = rw (e, lt-ltb _ _ (s .head-below), lt-ltb _ _ (s .posted-below), eq-eqb _ _ (s .counted))
-
   pub advanced-keeps : (n : ℕ) → n ≤ q .posted → sharedOk (advanced q n) ≡ true
-  advanced-keeps n p = again (advanced q n) numbers-ok (moved-on shared n p)
+  advanced-keeps n p = keeps (advanced q n) numbers-ok (moved-on shared n p)
 
   pub grown-keeps : (n : ℕ) → q .posted + n < q .size → sharedOk (grown q n) ≡ true
   grown-keeps n r =
-      again (grown q n) numbers-ok
+      keeps (grown q n) numbers-ok
       (record {
         queue-high = shared .queue-high;
         size-low = shared .size-low;

@@ -1,5 +1,6 @@
-// What the lines of a script share: how much memory a queue has, the first numbers of a line, and the numbers of an answer. A part of
-// the program `probe`: what it prints is compared.
+// What the lines of a script share: how much memory a queue has, the first numbers of a line, the part of the record that both queues
+// have, as it is handed in and printed, and the numbers of an answer. A part of the program `probe`: what it prints is compared.
+use ring::Queue;
 ghost use Rattle.script.specs.Lent.{Lent};
 
 // Each queue's memory, in slots, and in numbers of its ring.
@@ -16,8 +17,8 @@ pub const GIVEN: usize = 13;
 // The most numbers that a line can have: a send with an address and a length for each slot.
 pub const NUMBERS: usize = GIVEN + RING;
 
-// The numbers of the longest answer.
-pub const LONGEST: usize = 32;
+// The numbers of the longest answer: a take.
+pub const LONGEST: usize = 34;
 
 // The first numbers of a line, by their place.
 pub struct Given {
@@ -49,16 +50,60 @@ pub fn no_row() -> Row {
     }
 }
 
-// The first so many of six numbers.
-pub fn row_of(count: usize, a: u64, b: u64, c: u64, d: u64, e: u64, f: u64) -> Row {
-    let mut values = [0; LONGEST];
-    values[0] = a;
-    values[1] = b;
-    values[2] = c;
-    values[3] = d;
-    values[4] = e;
-    values[5] = f;
-    Row { values, count }
+impl Row {
+    // With more numbers behind, as far as there is room.
+    pub fn and(self, more: &[u64]) -> Row {
+        let mut values = self.values;
+        let mut count = self.count;
+        let mut i = 0;
+        while i < more.len() {
+            if count < LONGEST {
+                values[count] = more[i];
+                count += 1;
+            }
+            i += 1;
+        }
+        Row { values, count }
+    }
+}
+
+pub fn row_of(numbers: &[u64]) -> Row {
+    no_row().and(numbers)
+}
+
+// What a line hands in of the record: its first six numbers.
+pub fn queue_of(given: Given) -> Queue {
+    Queue {
+        queue: given.n0 as usize,
+        size: given.n1 as usize,
+        head: given.n2 as usize,
+        posted: given.n3 as usize,
+        ever_posted: given.n4,
+        ever_returned: given.n5,
+    }
+}
+
+// Where a queue stands, behind the numbers of a row.
+fn standing(row: Row, queue: Queue) -> Row {
+    row.and(
+        &[
+            queue.head as u64,
+            queue.posted as u64,
+            queue.ever_posted,
+            queue.ever_returned,
+        ],
+    )
+}
+
+// How the row of a call begins that hands its queue on.
+pub fn queue_row(answer: u8, queue: Queue) -> Row {
+    standing(row_of(&[answer as u64]), queue)
+}
+
+// The row of a fresh queue; the bytes are its buffer's, or its longest frame's.
+pub fn fresh_row(answer: u8, queue: Queue, bytes: usize) -> Row {
+    let first = row_of(&[answer as u64, queue.queue as u64, queue.size as u64]);
+    standing(first, queue).and(&[bytes as u64])
 }
 
 // How much of memory is lent: so much, or all of it.

@@ -12,10 +12,13 @@ use script::NUMBERS;
 use script::RING;
 use script::Row;
 use script::SLOTS;
+use script::fresh_row;
 use script::lent;
 use script::lent_counts;
 use script::no_row;
 use script::poke;
+use script::queue_of;
+use script::queue_row;
 use script::row_of;
 use sum::sum_counts;
 use sum::sum_of;
@@ -36,22 +39,13 @@ pub struct Passed {
     pub row: Row,
 }
 
-fn record(queue: u64, size: u64, head: u64, posted: u64, frame: u64) -> TxQueue {
-    TxQueue {
-        shared: Queue {
-            queue: queue as usize,
-            size: size as usize,
-            head: head as usize,
-            posted: posted as usize,
-        },
-        frame: frame as usize,
-    }
-}
-
 // Nothing asked for yet, and nothing lent.
 pub fn none() -> Tx {
     Tx {
-        queue: record(0, 0, 0, 0, 0),
+        queue: TxQueue {
+            shared: Queue::empty(0, 0),
+            frame: 0,
+        },
         ring: 0,
         tokens: 0,
         counts: 0,
@@ -61,10 +55,13 @@ pub fn none() -> Tx {
 // The record and the lent lengths that a line hands in.
 fn handed(given: Given) -> Tx {
     Tx {
-        queue: record(given.n0, given.n1, given.n2, given.n3, given.n4),
-        ring: given.n5 as usize,
-        tokens: given.n6 as usize,
-        counts: given.n7 as usize,
+        queue: TxQueue {
+            shared: queue_of(given),
+            frame: given.n6 as usize,
+        },
+        ring: given.n7 as usize,
+        tokens: given.n8 as usize,
+        counts: given.n9 as usize,
     }
 }
 
@@ -92,24 +89,13 @@ fn begun(answer: u8, queue: TxQueue, tx: Tx) -> Tx {
     }
 }
 
-fn fresh_row(answer: u8, queue: TxQueue) -> Row {
-    row_of(
-        6,
-        answer as u64,
-        queue.shared.queue as u64,
-        queue.shared.size as u64,
-        queue.shared.head as u64,
-        queue.shared.posted as u64,
-        queue.frame as u64,
-    )
-}
-
 fn fresh(given: Given, tx: Tx) -> Passed {
     let fresh = TxQueue::fresh(given.n0 as usize, given.n1 as usize, given.n2 as usize);
     let queue = fresh.queue;
+    let shared = queue.shared;
     Passed {
         tx: begun(fresh.answer, queue, tx),
-        row: fresh_row(fresh.answer, queue),
+        row: fresh_row(fresh.answer, shared, queue.frame),
     }
 }
 
@@ -148,17 +134,10 @@ fn request(given: Given) -> Request {
 
 fn sent(tx: Tx, sent: Sent) -> Passed {
     let queue = sent.queue;
+    let shared = queue.shared;
     Passed {
         tx: with(tx, queue),
-        row: row_of(
-            4,
-            sent.answer as u64,
-            queue.shared.head as u64,
-            queue.shared.posted as u64,
-            sent.slots as u64,
-            0,
-            0,
-        ),
+        row: queue_row(sent.answer, shared).and(&[sent.slots as u64]),
     }
 }
 
@@ -215,17 +194,10 @@ fn send_line(
 
 fn reclaimed(tx: Tx, reclaimed: Reclaimed) -> Passed {
     let queue = reclaimed.queue;
+    let shared = queue.shared;
     Passed {
         tx: with(tx, queue),
-        row: row_of(
-            5,
-            reclaimed.answer as u64,
-            queue.shared.head as u64,
-            queue.shared.posted as u64,
-            reclaimed.token,
-            reclaimed.count as u64,
-            0,
-        ),
+        row: queue_row(reclaimed.answer, shared).and(&[reclaimed.token, reclaimed.count as u64]),
     }
 }
 
@@ -240,7 +212,7 @@ fn reclaim(tx: Tx, ring: &[u64], tokens: &[u64], counts: &[u16]) -> Passed {
 fn asked(tx: Tx, asked: Asked) -> Passed {
     Passed {
         tx,
-        row: row_of(2, asked.answer as u64, asked.value as u64, 0, 0, 0, 0),
+        row: row_of(&[asked.answer as u64, asked.value as u64]),
     }
 }
 
@@ -248,13 +220,11 @@ fn sums(tx: Tx, ring: &[u64], tokens: &[u64], counts: &[u16]) -> Passed {
     Passed {
         tx,
         row: row_of(
-            3,
-            sum_of(ring, tx.ring),
-            sum_of(tokens, tx.tokens),
-            sum_counts(counts, tx.counts),
-            0,
-            0,
-            0,
+            &[
+                sum_of(ring, tx.ring),
+                sum_of(tokens, tx.tokens),
+                sum_counts(counts, tx.counts),
+            ],
         ),
     }
 }

@@ -4,13 +4,11 @@ use command::Command;
 use family::family_number;
 use receive::Burst;
 use receive::Packet;
-use receive::RxQueue;
 use receive::Taken;
 use receive_lines::Received;
 use receive_lines::Rx;
 use receive_lines::with;
 use script::Given;
-use script::LONGEST;
 use script::OUT;
 use script::RING;
 use script::Row;
@@ -18,8 +16,9 @@ use script::SLOTS;
 use script::lent;
 use script::no_row;
 use script::poke;
-use script::row_of;
+use script::queue_row;
 use sum::sum_of;
+use writeback::WriteBack;
 
 fn wide(n: usize) -> u64 {
     n as u64
@@ -29,57 +28,62 @@ fn from_byte(n: u8) -> u64 {
     n as u64
 }
 
-// The row of a take: the packet's slots, then the fields of the last one.
-fn take_row(answer: u8, queue: RxQueue, packet: Packet) -> [u64; LONGEST] {
-    let last = packet.last;
+// A packet's slots behind a row.
+fn with_slots(row: Row, packet: Packet) -> Row {
     let a = packet.addresses;
     let l = packet.lengths;
+    row.and(
+        &[
+            packet.count as u64,
+            packet.total as u64,
+            a[0],
+            wide(l[0]),
+            a[1],
+            wide(l[1]),
+            a[2],
+            wide(l[2]),
+            a[3],
+            wide(l[3]),
+            a[4],
+            wide(l[4]),
+        ],
+    )
+}
+
+// The fields of a packet's last slot behind a row.
+fn with_fields(row: Row, last: WriteBack) -> Row {
     let family = last.family;
-    [
-        answer as u64,
-        queue.shared.head as u64,
-        queue.shared.posted as u64,
-        packet.count as u64,
-        packet.total as u64,
-        a[0],
-        wide(l[0]),
-        a[1],
-        wide(l[1]),
-        a[2],
-        wide(l[2]),
-        a[3],
-        wide(l[3]),
-        a[4],
-        wide(l[4]),
-        last.tag as u64,
-        last.hash as u64,
-        last.dd as u64,
-        last.eop as u64,
-        last.l2tag1p as u64,
-        last.l3l4p as u64,
-        last.crcp as u64,
-        from_byte(last.umbcast),
-        from_byte(last.fltstat),
-        last.lpbk as u64,
-        last.ipv6exadd as u64,
-        last.int_udp_0 as u64,
-        last.ipe as u64,
-        last.l4e as u64,
-        last.oversize as u64,
-        from_byte(last.ptype),
-        family_number(family),
-    ]
+    row.and(
+        &[
+            last.tag as u64,
+            last.hash as u64,
+            last.dd as u64,
+            last.eop as u64,
+            last.l2tag1p as u64,
+            last.l3l4p as u64,
+            last.crcp as u64,
+            from_byte(last.umbcast),
+            from_byte(last.fltstat),
+            last.lpbk as u64,
+            last.ipv6exadd as u64,
+            last.int_udp_0 as u64,
+            last.ipe as u64,
+            last.l4e as u64,
+            last.oversize as u64,
+            from_byte(last.ptype),
+            family_number(family),
+        ],
+    )
 }
 
 fn taken(rx: Rx, taken: Taken) -> Received {
     let queue = taken.queue;
+    let shared = queue.shared;
     let packet = taken.packet;
+    let last = packet.last;
     Received {
         rx: with(rx, queue),
-        row: Row {
-            values: take_row(taken.answer, queue, packet),
-            count: LONGEST,
-        },
+        row: with_fields(with_slots(queue_row(taken.answer, shared), packet), last),
     }
 }
 
@@ -93,16 +97,11 @@ fn take(rx: Rx, ring: &[u64], list: &[u64]) -> Received {
 // The record is carried on whatever the answer: packets taken before a 4 or 5 stand.
 fn polled(rx: Rx, burst: Burst, sum: u64) -> Received {
     let queue = burst.queue;
+    let shared = queue.shared;
     Received {
         rx: with(rx, queue),
-        row: row_of(
-            6,
-            burst.answer as u64,
-            queue.shared.head as u64,
-            queue.shared.posted as u64,
-            burst.packets as u64,
-            burst.examined as u64,
-            sum,
+        row: queue_row(burst.answer, shared).and(
+            &[burst.packets as u64, burst.examined as u64, sum],
         ),
     }
 }

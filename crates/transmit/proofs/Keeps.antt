@@ -28,9 +28,9 @@ use Rattle.transmit.specs.declared.Fresh.{Fresh}
 use Rattle.transmit.specs.declared.Sent.{Sent}
 use Rattle.transmit.specs.declared.Reclaimed.{Reclaimed}
 use Rattle.transmit.specs.Queue.{recordOk, lentOk, movedTo, emptyQueue, freshOf}
-use Rattle.transmit.specs.Send.{slotsTaken, sendDone, sendRefused, answerTo, sendOf, ringAfter, tokensAfter, countsAfter, Unchanged, Stays}
-use Rattle.transmit.specs.Reclaim.{reclaimDone, reclaimRefused, tokenAt, reclaimAnswer, reclaimOf}
-use Rattle.transmit.proofs.Laws.{lines, kept, lent-record, lent-same, sendable, reclaimable}
+use Rattle.transmit.specs.Send.{slotsTaken, answerTo, sendOf, ringAfter, tokensAfter, countsAfter, Unchanged, Stays}
+use Rattle.transmit.specs.Reclaim.{reclaimRefused, reclaimAnswer, reclaimOf}
+use Rattle.transmit.proofs.Laws.{lines, kept, lent-record, lent-same, sendable, by-send, reclaimable, by-reclaim}
 
 -- ---- accepted again
 
@@ -45,10 +45,6 @@ fresh-keeps queue size frame z = go (recordOk (emptyQueue queue size frame)) ref
     go true e a = e
     go false e a = absurd (omega arith)
 
--- what a send gives back, by whether it is accepted
-abbrev given : TxQueue → ℕ → ℕ → Bool → Sent
-given q answer slots b = cond b (sendDone q slots) (sendRefused q answer)
-
 module _ (q : TxQueue) (ok : recordOk q ≡ true) where
   -- with another shared part that keeps the shared lines
   moved : (s : Queue) → sharedOk s ≡ true → recordOk (movedTo q s) ≡ true
@@ -57,34 +53,18 @@ module _ (q : TxQueue) (ok : recordOk q ≡ true) where
 
   pub send-keeps : (ring tokens counts addresses lengths : List ℕ) (request : Request)
       → recordOk (sendOf q ring tokens counts addresses lengths request .queue) ≡ true
-  send-keeps ring tokens counts addresses lengths request = go (eqb answer 0) refl
-    where
-      answer : ℕ
-      answer = answerTo q ring tokens counts addresses lengths request
-
-      go : (b : Bool) → eqb answer 0 ≡ b → recordOk (given q answer (slotsTaken request lengths) b .queue) ≡ true
-      go true e =
-          let s = sendable q (length ring) (length tokens) (length counts) addresses lengths request (eqb-true answer 0 e) in
-          moved (grown (q .shared) (slotsTaken request lengths))
-          (grown-keeps (q .shared) (lines q ok .0) (slotsTaken request lengths) (s .grow .room))
-      go false e = ok
+  send-keeps ring tokens counts addresses lengths request =
+      by-send q ring tokens counts addresses lengths request (λ (s : Sent). recordOk (s .queue) ≡ true)
+      (λ z. let s = sendable q (length ring) (length tokens) (length counts) addresses lengths request z in
+      moved (grown (q .shared) (slotsTaken request lengths)) (grown-keeps (q .shared) (lines q ok .0) (slotsTaken request lengths) (s .grow .room)))
+      ok
 
   pub reclaim-keeps : (ring tokens counts : List ℕ) → recordOk (reclaimOf q ring tokens counts .queue) ≡ true
-  unfolding reclaimOf
-  reclaim-keeps ring tokens counts = go (eqb answer 0) refl
-    where
-      answer : ℕ
-      answer = reclaimAnswer q ring tokens counts
-
-      count : ℕ
-      count = countAt (q .shared) counts
-
-      given : Bool → Reclaimed
-      given b = cond b (reclaimDone q (tokenAt q tokens) count) (reclaimRefused q answer)
-
-      go : (b : Bool) → eqb answer 0 ≡ b → recordOk (given b .queue) ≡ true
-      go true e = moved (advanced (q .shared) count) (advanced-keeps (q .shared) (lines q ok .0) count (reclaimable q ring tokens counts (eqb-true answer 0 e) .count-is .most))
-      go false e = ok
+  reclaim-keeps ring tokens counts =
+      by-reclaim q ring tokens counts (λ (r : Reclaimed). recordOk (r .queue) ≡ true)
+      (λ z. let c = reclaimable q ring tokens counts z .count-is in
+      moved (advanced (q .shared) (countAt (q .shared) counts)) (advanced-keeps (q .shared) (lines q ok .0) (countAt (q .shared) counts) (c .most)))
+      ok
 
 either-long : (b : Bool) (xs ys : List ℕ) → length xs ≡ length ys → length (cond b xs ys) ≡ length ys
 either-long true xs ys e = e
@@ -151,8 +131,4 @@ module _ (q : TxQueue) (ring tokens counts addresses lengths : List ℕ) (reques
       rw (ring-long, tokens-long token, counts-long)
       (lent-same q (length ring) (length tokens) (length counts) l (sendOf q ring tokens counts addresses lengths request .queue)
       (send-keeps q (lent-record q (length ring) (length tokens) (length counts) l) ring tokens counts addresses lengths request)
-      (size-same accepts))
-    where
-      size-same : (b : Bool) → given q (answerTo q ring tokens counts addresses lengths request) (slotsTaken request lengths) b .queue .shared .size ≡ q .shared .size
-      size-same true = refl
-      size-same false = refl
+      (by-send q ring tokens counts addresses lengths request (λ (s : Sent). s .queue .shared .size ≡ q .shared .size) (λ z. refl) refl))

@@ -1,8 +1,8 @@
 -- What an accepted record, accepted lent slices, an accepted send and an accepted reclaim are, as facts.
 -- Assumes nothing.
-use Prim.Native.Nat.{ℕ, _*_, _^_, _≤_, _<_}
-use mathlib.Core.Path.{_≡_}
-use mathlib.Core.Bool.{true, _&&_}
+use Prim.Native.Nat.{ℕ, _*_, _^_, _<_}
+use mathlib.Core.Path.{_≡_, refl}
+use mathlib.Core.Bool.{Bool, true, false, _&&_, cond}
 use mathlib.Core.List.{List, [], _∷_}
 use native.Mathlib.Omega.{arith}
 use borrow.Author.Tests.{eqb-true, not-false}
@@ -20,12 +20,15 @@ use Rattle.request.specs.declared.Request.{Request}
 use Rattle.packet.specs.Packet.{packetChecks}
 use Rattle.packet.specs.Accepted.{Accepted}
 use Rattle.packet.proofs.Accepted.{accepted}
+use Rattle.done.specs.Marks.{countAt}
 use Rattle.done.proofs.Laws.{Counted, counted}
 use Rattle.transmit.specs.declared.TxQueue.{TxQueue}
+use Rattle.transmit.specs.declared.Sent.{Sent}
+use Rattle.transmit.specs.declared.Reclaimed.{Reclaimed}
 use Rattle.transmit.specs.Queue.{leastFrame, mostFrame, frameOk, recordOk, lentOk, tailValueOf}
 use Rattle.transmit.specs.Steps.{Kept, Lent}
-use Rattle.transmit.specs.Send.{slotsTaken, sendChecks, sendAnswer}
-use Rattle.transmit.specs.Reclaim.{reclaimChecks, reclaimAnswer}
+use Rattle.transmit.specs.Send.{slotsTaken, sendChecks, sendAnswer, sendDone, sendRefused, answerTo, sendOf}
+use Rattle.transmit.specs.Reclaim.{tokenAt, reclaimDone, reclaimRefused, reclaimChecks, reclaimAnswer, reclaimOf}
 
 -- the two parts of the test
 pub lines : (q : TxQueue) → recordOk q ≡ true → (sharedOk (q .shared) ≡ true) × (frameOk (q .frame) ≡ true)
@@ -79,6 +82,19 @@ module _ (q : TxQueue) (ringLength tokensLength countsLength : ℕ) (addresses l
       let lent-is = lent q ringLength tokensLength countsLength l in
       record { lent-ok = l; lent-is = lent-is; own = accepted addresses lengths (q .frame) request own; grow = grows (q .shared) (slotsTaken request lengths) (lent-is .is .shared-is) (p 5) }
 
+module _ (q : TxQueue) (ring tokens counts addresses lengths : List ℕ) (request : Request) where
+  -- what holds of a send that is done and of one that is refused holds of what it gives back
+  pub by-send : (P : Sent → Type 0) → (answerTo q ring tokens counts addresses lengths request ≡ 0 → P (sendDone q (slotsTaken request lengths)))
+      → P (sendRefused q (answerTo q ring tokens counts addresses lengths request)) → P (sendOf q ring tokens counts addresses lengths request)
+  by-send P done refused = go (eqb answer 0) refl
+    where
+      answer : ℕ
+      answer = answerTo q ring tokens counts addresses lengths request
+
+      go : (b : Bool) → eqb answer 0 ≡ b → P (cond b (sendDone q (slotsTaken request lengths)) (sendRefused q answer))
+      go true e = done (eqb-true answer 0 e)
+      go false e = refused
+
 -- ---- reclaim
 
 module _ (q : TxQueue) (ring tokens counts : List ℕ) where
@@ -92,3 +108,15 @@ module _ (q : TxQueue) (ring tokens counts : List ℕ) where
   reclaimable e =
       let p = passed (reclaimChecks q ring tokens counts) tt e in
       record { lent-ok = not-false _ (p 0); lent-is = lent q _ _ _ (not-false _ (p 0)); count-is = counted (q .shared) counts (p 2) }
+
+  pub by-reclaim : (P : Reclaimed → Type 0) → (reclaimAnswer q ring tokens counts ≡ 0 → P (reclaimDone q (tokenAt q tokens) (countAt (q .shared) counts)))
+      → P (reclaimRefused q (reclaimAnswer q ring tokens counts)) → P (reclaimOf q ring tokens counts)
+  unfolding reclaimOf
+  by-reclaim P done refused = go (eqb answer 0) refl
+    where
+      answer : ℕ
+      answer = reclaimAnswer q ring tokens counts
+
+      go : (b : Bool) → eqb answer 0 ≡ b → P (cond b (reclaimDone q (tokenAt q tokens) (countAt (q .shared) counts)) (reclaimRefused q answer))
+      go true e = done (eqb-true answer 0 e)
+      go false e = refused

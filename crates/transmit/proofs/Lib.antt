@@ -5,3 +5,4 @@ pub mod Keeps
 pub mod Packets
 pub mod Outcomes
 pub mod Reused
+pub mod Counts

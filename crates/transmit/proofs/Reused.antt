@@ -2,12 +2,10 @@
 -- once they reach what it needs, if the count has room.
 -- Assumes nothing.
 use Prim.Native.Nat.{ℕ, _+_, _-_, _≤_}
-use mathlib.Core.Path.{_≡_, refl, ap}
-use mathlib.Core.Bool.{Bool, true, false, cond}
+use mathlib.Core.Path.{_≡_, ap}
 use mathlib.Core.List.{List}
 use native.Mathlib.Omega.{arith}
-use borrow.Author.Tests.{eq-eqb, eqb-true}
-use lib.Dec.{eqb}
+use borrow.Author.Tests.{eq-eqb}
 use lib.ListN.{length}
 use Rattle.ring.specs.Sizes.{mostCount}
 use Rattle.ring.specs.Queue.{everPosted, freeSlots}
@@ -16,25 +14,14 @@ use Rattle.done.specs.Marks.{countAt}
 use Rattle.transmit.specs.declared.TxQueue.{TxQueue}
 use Rattle.transmit.specs.declared.Reclaimed.{Reclaimed}
 use Rattle.transmit.specs.Send.{slotsTaken, sendAnswer}
-use Rattle.transmit.specs.Reclaim.{reclaimDone, reclaimRefused, tokenAt, reclaimAnswer, reclaimOf, Freed}
-use Rattle.transmit.proofs.Laws.{lent-record, Reclaimable, reclaimable}
+use Rattle.transmit.specs.Reclaim.{reclaimDone, tokenAt, reclaimAnswer, reclaimOf, Freed}
+use Rattle.transmit.proofs.Laws.{lent-record, Reclaimable, reclaimable, by-reclaim}
 use Rattle.transmit.proofs.Causes.{retry}
 use Rattle.transmit.proofs.Keeps.{reclaim-keeps}
 
 module _ (q : TxQueue) (ring tokens counts : List ℕ) (done : reclaimOf q ring tokens counts .answer ≡ 0) where
   passes : reclaimAnswer q ring tokens counts ≡ 0
-  unfolding reclaimOf
-  passes = go (eqb answer 0) refl done
-    where
-      answer : ℕ
-      answer = reclaimAnswer q ring tokens counts
-
-      given : Bool → Reclaimed
-      given b = cond b (reclaimDone q (tokenAt q tokens) (countAt (q .shared) counts)) (reclaimRefused q answer)
-
-      go : (b : Bool) → eqb answer 0 ≡ b → given b .answer ≡ 0 → answer ≡ 0
-      go true e z = eqb-true answer 0 e
-      go false e z = z
+  passes = by-reclaim q ring tokens counts (λ (r : Reclaimed). r .answer ≡ 0 → reclaimAnswer q ring tokens counts ≡ 0) (λ z d. z) (λ d. d) done
 
   facts : Reclaimable q ring tokens counts
   facts = reclaimable q ring tokens counts passes

@@ -1,7 +1,6 @@
 -- `TxQueue::send_answer` meets its contract: each answer by the tests on the way.
 -- Assumes nothing.
 use mathlib.Core.Path.{sym, _∙_}
-use native.Mathlib.Omega.{arith}
 use borrow.Author.Needs.{needs}
 use borrow.Author.Tests.{ne-eqb}
 use Rattle.packet.specs.Packet.{packetChecks}
