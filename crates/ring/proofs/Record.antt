@@ -2,7 +2,7 @@
 -- Assumes nothing.
 use Prim.Native.Nat.{ℕ, _+_, _^_, _≤_, _<_}
 use mathlib.Core.Path.{_≡_, refl}
-use mathlib.Core.Bool.{Bool, true, false, not, _&&_}
+use mathlib.Core.Bool.{Bool, true, false, not, _&&_, and-false}
 use mathlib.Core.List.{[], _∷_}
 use native.Mathlib.Omega.{arith}
 use borrow.Author.Tests.{lt-ltb, le-ltb, eq-eqb, ltb-true, leb-true, eqb-true}
@@ -46,14 +46,14 @@ module _ (q : Queue) (ok : sharedOk q ≡ true) where
   counts = countsOk (q .posted) (everPosted q) (everReturned q)
 
   numbers-ok : numbers ≡ true
-  numbers-ok = both numbers places (both (numbers && places) counts ok .0) .0
+  numbers-ok = both (places && counts) numbers ok .1
 
   pub shared : Shared q
   shared =
-      let l = both (numbers && places) counts ok in
+      let l = both places counts (both (places && counts) numbers ok .0) in
       let n = both (leb (q .queue) mostQueue) (inSteps leastSize mostSize sizeStep (q .size)) numbers-ok in
       let s = steps-is leastSize mostSize sizeStep (q .size) (n .1) in
-      let p = both (ltb (q .head) (q .size)) (ltb (q .posted) (q .size)) (both numbers places (l .0) .1) in
+      let p = both (ltb (q .head) (q .size)) (ltb (q .posted) (q .size)) (l .0) in
       record {
         queue-high = leb-true _ _ (n .0);
         size-low = s .least;
@@ -82,11 +82,11 @@ module _ (q : Queue) (ok : sharedOk q ≡ true) where
 pub empty-ok : (queue size : ℕ) → sharedOk (emptyQueue queue size) ≡ queueOk queue size
 empty-ok queue size = go (queueOk queue size) refl
   where
-    go : (b : Bool) → queueOk queue size ≡ b → (b && placeOk size 0 0) && true ≡ b
+    go : (b : Bool) → queueOk queue size ≡ b → (placeOk size 0 0 && true) && b ≡ b
     go true e =
         let s = steps-is leastSize mostSize sizeStep size (both (leb queue mostQueue) (inSteps leastSize mostSize sizeStep size) e .1) in
         rw (lt-ltb 0 size (omega (arith, s .least)))
-    go false e = refl
+    go false e = and-false (placeOk size 0 0 && true)
 
 -- ---- whose the slots are
 

@@ -17,9 +17,9 @@ everPosted q = q .«ever_posted»
 abbrev pub everReturned : Queue → ℕ
 everReturned q = q .«ever_returned»
 
--- queue number and size, head and posted, and the counts keep their lines
+-- head and posted, the counts, queue number and size keep their lines
 abbrev pub sharedOk : Queue → Bool
-sharedOk q = (queueOk (q .queue) (q .size) && placeOk (q .size) (q .head) (q .posted)) && countsOk (q .posted) (everPosted q) (everReturned q)
+sharedOk q = (placeOk (q .size) (q .head) (q .posted) && countsOk (q .posted) (everPosted q) (everReturned q)) && queueOk (q .queue) (q .size)
 
 -- what these lines say, as facts
 pub record Shared (q : Queue) : Type 0 where

@@ -67,7 +67,7 @@ impl Queue {
         }
     }
 
-    // Posted and ever returned come to ever posted. A sum that wraps is below ever returned.
+    // Posted and ever returned come to ever posted. A sum that wraps is below ever returned, so where the first test holds it is not ever posted.
     fn counts_ok(self) -> bool
         ensures { λ r. ⌜ r ≡ countsOk (self .posted) (everPosted self) (everReturned self) ⌝ }
     {
@@ -76,7 +76,7 @@ impl Queue {
                 == self.ever_posted)
     }
 
-    // Queue number, size, head, posted and the counts keep their lines.
+    // Head, posted and the counts, queue number and size keep their lines. Those that a call moves are tested first, and by a branch: docs/BENCH.md has why.
     pub fn ok(self) -> bool
         ensures { λ r. ⌜ r ≡ sharedOk self ⌝ }
     {
