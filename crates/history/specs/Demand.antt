@@ -54,7 +54,7 @@ pub record Demand3 (w : World) (es : List Event) : Type 0 where
   pub lateCalls : calls (late w es) ≡ calls es
   pub lateWrites : writes (late w es) ≡ writes es
   pub lateJustBefore : JustBefore w (late w es)
-  -- "changes no answer and no end state": all that each call gives back; the record, all of ring and list, the device's place.
+  -- "changes no answer and no end state": all that each call gives back; the record with its counts, all of ring and list, the device's place.
   pub lateReplies : replies w (late w es) ≡ replies w es
   pub lateEnd : end w (late w es) ≡ end w es
   -- "'not yet' only when everything completed has been handed up": and else a take hands up the next one, so 1 and 5 never come.
