@@ -1,4 +1,5 @@
--- The lines of a queue record that the receive and the transmit queue share (01, "The queue record").
+-- The lines of a queue record that the receive and the transmit queue share (01, "The queue record"; of the counts 02, "A figure that moves on the
+-- console page").
 -- Assumes nothing.
 use Prim.Native.Nat.{ℕ, _+_, _-_, _^_}
 use mathlib.Core.Bool.{Bool, _&&_}
