@@ -1,18 +1,15 @@
 -- A slot count that a packet of the posted slots can have.
 -- Assumes nothing.
 use Prim.Native.Nat.{ℕ, _≤_}
-use mathlib.Core.Path.{_≡_, refl}
-use mathlib.Core.Bool.{Bool, true, false, _||_, true≢false}
+use mathlib.Core.Path.{_≡_}
+use mathlib.Core.Bool.{false, _||_}
 use mathlib.Core.List.{List}
 use native.Mathlib.Omega.{arith}
 use borrow.Author.Tests.{eqb-false, ltb-false}
 use lib.Dec.{ltb, eqb}
+use Rattle.rules.proofs.Tests.{neither}
 use Rattle.ring.specs.declared.Queue.{Queue}
 use Rattle.done.specs.Marks.{countAt}
-
-neither : (a b : Bool) → a || b ≡ false → (a ≡ false) × (b ≡ false)
-neither true b e = absurd (true≢false e)
-neither false b e = (refl, e)
 
 pub record Counted (q : Queue) (counts : List ℕ) : Type 0 where
   pub some : 1 ≤ countAt q counts

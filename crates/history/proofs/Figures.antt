@@ -18,14 +18,12 @@ use Rattle.scan.specs.Told.{sum}
 use Rattle.receive.specs.declared.RxQueue.{RxQueue}
 use Rattle.receive.specs.declared.Packet.{Packet}
 use Rattle.receive.specs.declared.Taken.{Taken}
-use Rattle.receive.specs.Queue.{recordOk, emptyQueue}
-use Rattle.receive.proofs.Laws.{fresh-lines, fresh-queue}
 use Rattle.receive.proofs.Takes.{take-refused, hands-up}
 use Rattle.receive.proofs.Counts.{post-moves, take-moves}
 use Rattle.history.specs.World.{World, Event, post, poll, write, posted, postAt, takeAt, after, reply, end, replies, AllAllowed, Start}
 use Rattle.history.specs.History.{ifDone, acceptedAt, accepted, packetsIn, handedUp, returned}
 use Rattle.history.specs.Figures.{shown, Accepted, NotLower, StoodStill, Console}
-use Rattle.history.proofs.State.{after-accepted, after-refused, placed, room, fit-shared, holds-start}
+use Rattle.history.proofs.State.{after-accepted, after-refused, placed, room, fit-shared, start-empty, holds-start}
 use Rattle.history.proofs.Run.{Ran, ran}
 use Rattle.history.proofs.Late.{end-append, in-append}
 
@@ -180,11 +178,5 @@ console w es f t =
     m : Moved (w .queue .shared) (end w es .queue .shared) (length (accepted w es)) (returned w es)
     m = events-move w es
 
-    lines : recordOk (emptyQueue (f .number) (f .size) (f .buffer)) ≡ true
-    lines = fresh-lines (f .number) (f .size) (f .buffer) (f .answer-is)
-
-    fresh : w .queue ≡ emptyQueue (f .number) (f .size) (f .buffer)
-    fresh = f .queue-is ∙ fresh-queue (f .number) (f .size) (f .buffer) lines
-
     none : (everPosted (w .queue .shared) ≡ 0) × (everReturned (w .queue .shared) ≡ 0)
-    none = (ap (λ (q : RxQueue). everPosted (q .shared)) fresh, ap (λ (q : RxQueue). everReturned (q .shared)) fresh)
+    none = (ap (λ (q : RxQueue). everPosted (q .shared)) (start-empty w f), ap (λ (q : RxQueue). everReturned (q .shared)) (start-empty w f))

@@ -144,13 +144,20 @@ holds-count w L A h = sym (view-length w) ∙ rw (h .slots, length-append, lengt
 pub holds-tail : (w : World) (L : List Slot) → Holds w L [] → w .place ≡ tailOf (w .queue .shared)
 holds-tail w L h = h .place ∙ ap (λ (k : ℕ). (w .queue .shared .head + k) % w .queue .shared .size) (omega (arith, holds-count w L [] h))
 
+-- a history starts from an empty queue that is accepted
+start-lines : (w : World) (f : Start w) → recordOk (emptyQueue (f .number) (f .size) (f .buffer)) ≡ true
+start-lines w f = fresh-lines (f .number) (f .size) (f .buffer) (f .answer-is)
+
+pub start-empty : (w : World) (f : Start w) → w .queue ≡ emptyQueue (f .number) (f .size) (f .buffer)
+start-empty w f = f .queue-is ∙ fresh-queue (f .number) (f .size) (f .buffer) (start-lines w f)
+
 pub holds-start : (w : World) → Start w → Holds w [] []
 unfolding slotsIn postedSlots run
 holds-start w f =
     record {
       fit =
           record {
-            ok = rw e lines;
+            ok = rw (start-empty w f) (start-lines w f);
             ring = f .ring-long;
             list = f .list-long;
           };
@@ -160,17 +167,11 @@ holds-start w f =
       legal = tt;
     }
   where
-    lines : recordOk (emptyQueue (f .number) (f .size) (f .buffer)) ≡ true
-    lines = fresh-lines (f .number) (f .size) (f .buffer) (f .answer-is)
-
-    e : w .queue ≡ emptyQueue (f .number) (f .size) (f .buffer)
-    e = f .queue-is ∙ fresh-queue (f .number) (f .size) (f .buffer) lines
-
     head : w .queue .shared .head ≡ 0
-    head = ap (λ (q : RxQueue). q .shared .head) e
+    head = ap (λ (q : RxQueue). q .shared .head) (start-empty w f)
 
     none : w .queue .shared .posted ≡ 0
-    none = ap (λ (q : RxQueue). q .shared .posted) e
+    none = ap (λ (q : RxQueue). q .shared .posted) (start-empty w f)
 
 pub seen-first : (w : World) (L : List Slot) (A : List ℕ) → Holds w L A → seen w ≡ first (packets L)
 unfolding seen look slotsIn

@@ -3,7 +3,7 @@
 -- Assumes nothing.
 use Prim.Native.Nat.{ℕ}
 use mathlib.Core.Bool.{Bool, true, false, cond}
-use mathlib.Core.List.{List, map}
+use mathlib.Core.List.{List}
 use lib.Dec.{eqb}
 use Rattle.ring.specs.Counts.{Moved}
 use Rattle.ring.proofs.Counts.{stay, by-grown, by-advanced, moved-both}
@@ -12,7 +12,7 @@ use Rattle.scan.specs.Told.{sum}
 use Rattle.receive.specs.declared.RxQueue.{RxQueue}
 use Rattle.receive.specs.Post.{oneMore, answerTo, postOf}
 use Rattle.receive.specs.Take.{look, packetOf, takeBy, takeOf}
-use Rattle.receive.specs.Burst.{Made, carried, made, burstOf}
+use Rattle.receive.specs.Burst.{carried, handedBack, made, burstOf}
 use Rattle.receive.proofs.Turns.{by-takes}
 use Rattle.receive.proofs.Bursts.{of-made}
 
@@ -32,17 +32,13 @@ module _ (q : RxQueue) (ring list : List ℕ) where
       go (refuse n) = stay (q .shared)
       go (whole p) = by-advanced (q .shared) _
 
--- the slots that takes hand back
-abbrev pub slotsBack : List Made → ℕ
-slotsBack ms = sum (map (λ (m : Made). m .taken .packet .count) ms)
-
 module _ (q : RxQueue) (ring list out : List ℕ) (limit : ℕ) where
-  pub burst-moves : Moved (q .shared) (burstOf q ring list out limit .queue .shared) 0 (slotsBack (made q ring list out limit))
+  pub burst-moves : Moved (q .shared) (burstOf q ring list out limit .queue .shared) 0 (handedBack (made q ring list out limit))
   unfolding burstOf carried sum
   burst-moves =
-      of-made q ring list out limit (λ ms. Moved (q .shared) (carried q ms .shared) 0 (slotsBack ms))
+      of-made q ring list out limit (λ ms. Moved (q .shared) (carried q ms .shared) 0 (handedBack ms))
       (stay (q .shared))
-      (by-takes ring list (λ n q ms. Moved (q .shared) (carried q ms .shared) 0 (slotsBack ms))
+      (by-takes ring list (λ n q ms. Moved (q .shared) (carried q ms .shared) 0 (handedBack ms))
       (λ q. stay (q .shared))
       (λ n q ms z r. moved-both (take-moves q ring list) r)
       (λ n q ne. moved-both (take-moves q ring list) (stay _))

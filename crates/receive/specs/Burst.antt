@@ -51,6 +51,10 @@ unfoldable pub told : List Made → List ℕ
 told [] = []
 told (m ∷ ms) = m .on .shared .head ∷ m .taken .packet .count ∷ m .taken .packet .total ∷ told ms
 
+-- the slots that they hand back; a take that refuses hands back none
+abbrev pub handedBack : List Made → ℕ
+handedBack ms = sum (map (λ (m : Made). m .taken .packet .count) ms)
+
 -- how many slots a take reads word 1 of; with nothing posted it reads none
 abbrev pub examinedBy : List ℕ → List ℕ → Made → ℕ
 examinedBy ring list m = examined (m .on .buffer) 0 (postedSlots (m .on .shared) ring list)

@@ -2,12 +2,12 @@
 -- Assumes nothing.
 use Prim.Native.Nat.{ℕ, _+_, _-_, _%_, _^_, _≤_}
 use mathlib.Core.Path.{_≡_, refl, sym, ap, _∙_}
-use mathlib.Core.Bool.{Bool, true, false, _&&_, _||_, true≢false, false≢true}
+use mathlib.Core.Bool.{false, _&&_, _||_, false≢true}
 use native.Mathlib.Nat.{add-zero}
 use native.Mathlib.Omega.{arith}
 use borrow.Author.Tests.{le-leb, leb-true, le-ltb, ltb-true, ltb-false, eq-eqb, ne-eqb, eqb-true}
 use lib.Dec.{leb, ltb, eqb}
-use Rattle.rules.proofs.Tests.{both, and-both, same, ltb-same}
+use Rattle.rules.proofs.Tests.{both, neither, and-both, same, ltb-same}
 use Rattle.ring.specs.declared.Queue.{Queue}
 use Rattle.ring.specs.Sizes.{mostCount}
 use Rattle.ring.specs.Queue.{everPosted, Shared, freeSlots, noRoom, advanced, grown}
@@ -35,10 +35,6 @@ at-most n most h =
     same (ltb most (n + 1)) (eqb n most)
     (λ e. eq-eqb n most (omega (arith, ltb-true most (n + 1) e)))
     (λ e. ne-eqb n most (λ s. omega (arith, ltb-false most (n + 1) e)))
-
-neither : (a b : Bool) → a || b ≡ false → (a ≡ false) × (b ≡ false)
-neither true b e = absurd (true≢false e)
-neither false b e = (refl, e)
 
 -- ---- the room
 

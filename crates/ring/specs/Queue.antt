@@ -53,11 +53,11 @@ noRoom q n = ltb (freeSlots q) n || ltb mostCount (everPosted q + n)
 abbrev pub emptyQueue : ℕ → ℕ → Queue
 emptyQueue queue size = record { queue = queue; size = size; head = 0; posted = 0; «ever_posted» = 0; «ever_returned» = 0 }
 
--- slots are handed back: head moves on by their count, posted falls by it
+-- slots are handed back: head moves on by their count, posted falls by it, and ever returned grows by it
 abbrev pub advanced : Queue → ℕ → Queue
 advanced q n = record { queue = q .queue; size = q .size; head = slotOf q n; posted = q .posted - n; «ever_posted» = everPosted q; «ever_returned» = everReturned q + n }
 
--- slots are posted: posted grows by their count
+-- slots are posted: posted grows by their count, and so does ever posted
 abbrev pub grown : Queue → ℕ → Queue
 grown q n = record { queue = q .queue; size = q .size; head = q .head; posted = q .posted + n; «ever_posted» = everPosted q + n; «ever_returned» = everReturned q }
 
