@@ -35,7 +35,7 @@ static inline bool address_wrong(uint64_t address, uint64_t length)
 
 /* ---- receiving */
 
-enum { PACKET_SLOTS = 5, BUFFER_LEAST = 1024, BUFFER_MOST = 16256, BUFFER_STEP = 128, BURST_PACKETS = 32, BURST_NUMBERS = 3 * BURST_PACKETS };
+enum { DATA_SLOTS = 5, PACKET_SLOTS = DATA_SLOTS + 1, BUFFER_LEAST = 1024, BUFFER_MOST = 16256, BUFFER_STEP = 128, BURST_PACKETS = 32, BURST_NUMBERS = 3 * BURST_PACKETS };
 enum family { FAMILY_UNKNOWN, FAMILY_MAC, FAMILY_ARP, FAMILY_IPV4, FAMILY_IPV6 };
 
 struct rx_queue {
@@ -173,7 +173,7 @@ static struct rx_taken rx_take(struct rx_queue q, const uint64_t *ring, size_t r
         size_t length = FIELD(word1, 38, 14);
         if (!(word1 & 1))
             return rx_refused(q, 4);
-        if (length > q.buffer || (length == 0 && (!last || k == 0)) || (!last && k == PACKET_SLOTS - 1))
+        if (length > q.buffer || (length == 0 ? !last || k == 0 : k >= DATA_SLOTS))
             return rx_refused(q, 5);
         t.packet.addresses[k] = list[at];
         t.packet.lengths[k] = length;
@@ -221,7 +221,7 @@ static struct rx_burst rx_burst(struct rx_queue q, const uint64_t *ring, size_t 
                 b.answer = 4;
                 goto out;
             }
-            if (length > q.buffer || (length == 0 && (!last || k == 0)) || (!last && k == PACKET_SLOTS - 1)) {
+            if (length > q.buffer || (length == 0 ? !last || k == 0 : k >= DATA_SLOTS)) {
                 b.answer = 5;
                 goto out;
             }

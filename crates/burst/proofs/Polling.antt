@@ -51,7 +51,7 @@ written-more out ns ms n e h =
 -- ---- one walk
 
 module _ (q : Queue) (buffer : ℕ) (ring : List ℕ) (f : Found) (found : FoundAs q buffer ring f) where
-  -- the record keeps what reading asks, and at most five slots were examined
+  -- the record keeps what reading asks, and at most six slots were examined
   pub found-keeps : (ringLength : ℕ) → Reads q ringLength → Reads (f .queue) ringLength × (f .examined ≤ packetSlots)
   unfolding foundBy
   found-keeps ringLength r =

@@ -5,7 +5,7 @@ use Rattle.ring.specs.Slots.{run}
 use Rattle.receive.specs.Queue.{recordOk, lentOk, freshOf}
 use Rattle.scan.specs.Slots.{postedSlots}
 use Rattle.receive.specs.Post.{postAnswer}
-use Rattle.scan.specs.Scan.{lengthOk, endOk, writable, andThen, scan, goesOn, examined}
+use Rattle.scan.specs.Scan.{allowed, writable, andThen, scan, goesOn, examined}
 use Rattle.scan.specs.Told.{sum, padded, lastWords}
 use Rattle.receive.specs.Take.{packetOf, look, takeBy, takeOf}
 use Rattle.receive.specs.Burst.{takesFrom, stoppedBy, carried, handing, told, refusalOf, made, burstOf, outAfter}
@@ -19,7 +19,7 @@ use Rattle.bursts.specs.Examples.{acts, saysAt, burstsSay, Polled}
 use Rattle.bursts.proofs.Bursts.{burst-demand}
 
 pub polled : Polled
-unfolding freshOf lentOk recordOk postAnswer run postedSlots lengthOk endOk writable andThen scan goesOn examined look sum padded lastWords packetOf takeBy takeOf takesFrom stoppedBy carried handing told refusalOf made burstOf outAfter postAt takeAt partAfter after reply ifDone packetsIn withQueue packetsTold afterAct upBy asEvents allUp spread saysAt burstsSay
+unfolding freshOf lentOk recordOk postAnswer run postedSlots allowed writable andThen scan goesOn examined look sum padded lastWords packetOf takeBy takeOf takesFrom stoppedBy carried handing told refusalOf made burstOf outAfter postAt takeAt partAfter after reply ifDone packetsIn withQueue packetsTold afterAct upBy asEvents allUp spread saysAt burstsSay
 polled =
     record {
       allowed = (tt, (tt, (tt, (tt, (tt, (((λ e. omega arith), tt), (tt, (((λ e. omega arith), tt), (((λ e. omega arith), tt), (tt, (tt, (tt, tt))))))))))));

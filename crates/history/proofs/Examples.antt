@@ -10,14 +10,14 @@ use Rattle.ring.specs.Queue.{tailOf}
 use Rattle.receive.specs.Queue.{recordOk, lentOk, freshOf}
 use Rattle.scan.specs.Slots.{postedSlots}
 use Rattle.receive.specs.Post.{postAnswer}
-use Rattle.scan.specs.Scan.{lengthOk, endOk, writable, andThen, scan}
+use Rattle.scan.specs.Scan.{allowed, writable, andThen, scan}
 use Rattle.scan.specs.Told.{sum, padded, lastWords}
 use Rattle.receive.specs.Take.{packetOf, look, takeBy, takeOf}
 use Rattle.history.specs.World.{World, Event, post, poll, write, postAt, takeAt, partAfter, after, reply, Allowed, end, replies, AllAllowed, Start}
 use Rattle.history.specs.History.{ifDone, acceptedAt, accepted, writeAt, writes, filled, written, joined, packets, completed, packetsIn, handedUp}
 use Rattle.history.specs.Late.{lateFrom, late}
 use Rattle.history.specs.Demand.{Demand3}
-use Rattle.history.specs.Examples.{start, numberOf, packetFrom, packetsFrom, oneByOne, oneByOneSays, atOnce, atOnceSays, lapped, slotsPosted, slotsWritten, slotsBack, along, Laps, events, Short, Refused}
+use Rattle.history.specs.Examples.{start, numberOf, slotsFrom, packetFrom, packetsFrom, oneByOne, oneByOneSays, atOnce, atOnceSays, lapped, slotsPosted, slotsWritten, slotsBack, along, Laps, events, Short, Refused}
 use Rattle.history.proofs.Demand.{demand3}
 
 -- ---- the device's rules as a test
@@ -64,7 +64,7 @@ start-is =
     }
 
 pub laps : Laps
-unfolding freshOf lentOk recordOk postAnswer run postedSlots lengthOk endOk writable andThen scan look sum padded lastWords packetOf takeBy takeOf postAt takeAt partAfter after reply end replies ifDone packetsIn handedUp numberOf packetFrom packetsFrom oneByOne oneByOneSays atOnce atOnceSays lapped slotsPosted slotsWritten slotsBack along fits allFit
+unfolding freshOf lentOk recordOk postAnswer run postedSlots allowed writable andThen scan look sum padded lastWords packetOf takeBy takeOf postAt takeAt partAfter after reply end replies ifDone packetsIn handedUp numberOf slotsFrom packetFrom packetsFrom oneByOne oneByOneSays atOnce atOnceSays lapped slotsPosted slotsWritten slotsBack along fits allFit
 laps =
     record {
       starts = start-is;
@@ -86,9 +86,9 @@ pub laps-demand : Demand3 start lapped
 laps-demand = demand3 start lapped (laps .starts) (laps .allowed)
 
 pub short : Short
-unfolding freshOf lentOk recordOk postAnswer run postedSlots lengthOk endOk writable andThen scan look sum padded lastWords packetOf takeBy takeOf postAt takeAt partAfter after reply end replies ifDone acceptedAt accepted writeAt writes filled written joined packets completed packetsIn handedUp lateFrom late numberOf fits allFit
+unfolding freshOf lentOk recordOk postAnswer run postedSlots allowed writable andThen scan look sum padded lastWords packetOf takeBy takeOf postAt takeAt partAfter after reply end replies ifDone acceptedAt accepted writeAt writes filled written joined packets completed packetsIn handedUp lateFrom late numberOf fits allFit
 short = record { allowed = all-allowed start events tt; says = refl; completed-are = refl; handed-up = refl; late-is = refl }
 
 pub refused : Refused
-unfolding freshOf lentOk recordOk postAnswer run postedSlots lengthOk endOk writable andThen scan look sum padded lastWords packetOf takeBy takeOf postAt takeAt partAfter after end packetFrom packetsFrom
-refused = record { none-posted = λ t. t .0 refl; none-left = λ t. t .0 refl; fifth-open = λ t. t .1; at-tail = λ e. false≢true e }
+unfolding freshOf lentOk recordOk postAnswer run postedSlots allowed writable andThen scan look sum padded lastWords packetOf takeBy takeOf postAt takeAt partAfter after end slotsFrom packetFrom packetsFrom
+refused = record { none-posted = λ t. t .0 refl; none-left = λ t. t .0 refl; first-empty = λ t. t .1; sixth-data = λ t. t .1; sixth-open = λ t. t .1; at-tail = λ e. false≢true e }

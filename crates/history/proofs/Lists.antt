@@ -9,7 +9,7 @@ use lib.Dec.{T}
 use lib.ListN.{length}
 use Rattle.places.specs.Words.{Words, dd, eop}
 use Rattle.scan.specs.Slots.{Slot}
-use Rattle.scan.specs.Scan.{lengthOk, endOk, writable, Look, refuse, whole, andThen, scan}
+use Rattle.scan.specs.Scan.{allowed, writable, Look, refuse, whole, andThen, scan}
 use Rattle.history.specs.World.{partAfter}
 use Rattle.history.specs.History.{filled, unwritten, joined, packets}
 
@@ -52,18 +52,17 @@ scan-unwritten b k [] = refl
 scan-unwritten b k (a ∷ A) = refl
 
 -- one slot written by the rules is not refused
-not-refused : (d l e : Bool) (seen : Look) → T (d && (l && e)) → cond (not d) (refuse 4) (cond (not l) (refuse 5) (cond (not e) (refuse 5) seen)) ≡ seen
-not-refused true true true seen t = refl
-not-refused true true false seen t = absurd t
-not-refused true false e seen t = absurd t
-not-refused false l e seen t = absurd t
+not-refused : (d a : Bool) (seen : Look) → T (d && a) → cond (not d) (refuse 4) (cond (not a) (refuse 5) seen) ≡ seen
+not-refused true true seen t = refl
+not-refused true false seen t = absurd t
+not-refused false a seen t = absurd t
 
 -- take sees the first whole packet of what is written, and where there is none it says 4
 pub scan-legal : (b k : ℕ) (L : List Slot) (A : List ℕ) → Legal b k L → scan b k (L ++ map unwritten A) ≡ first (packets L)
 unfolding scan packets writable partAfter
 scan-legal b k [] A h = scan-unwritten b k A
 scan-legal b k (s ∷ r) A h =
-    not-refused (dd (s .words)) (lengthOk b k (s .words)) (endOk k (s .words)) _ (h .0)
+    not-refused (dd (s .words)) (allowed b k (s .words)) _ (h .0)
     ∙ go (eop (s .words)) (h .1) (λ h′. scan-legal b (suc k) r A h′)
   where
     go : (e : Bool) → Legal b (cond e 0 (suc k)) r → (Legal b (suc k) r → scan b (suc k) (r ++ map unwritten A) ≡ first (packets r))

@@ -4,10 +4,12 @@ use Prim.Native.Nat.{ℕ, zero, suc, _+_, _*_, _^_}
 use mathlib.Core.Path.{_≡_}
 use mathlib.Core.Bool.{true, cond}
 use mathlib.Core.List.{List, [], _∷_, _++_, map}
+use lib.Dec.{ltb}
 use lib.ListN.{length, take, replicate}
 use Rattle.ring.specs.Slots.{run}
 use Rattle.ring.specs.Queue.{tailOf}
 use Rattle.places.specs.Words.{dd, eop}
+use Rattle.scan.specs.Scan.{dataSlots}
 use Rattle.receive.specs.Queue.{freshOf}
 use Rattle.scan.specs.Slots.{Slot}
 use Rattle.receive.specs.Take.{packetOf}
@@ -35,6 +37,10 @@ partIn n = record { address = 0x1000 * n; words = record { word0 = n; word1 = n 
 abbrev pub lastIn : ℕ → Slot
 lastIn n = record { address = 0x1000 * n; words = record { word0 = n; word1 = n * 2 ^ 38 + 3 } }
 
+-- buffer n, left empty by the last write of a packet
+abbrev pub emptyIn : ℕ → Slot
+emptyIn n = record { address = 0x1000 * n; words = record { word0 = n; word1 = 3 } }
+
 abbrev pub postFor : Slot → Event
 postFor s = post (s .address)
 
@@ -48,22 +54,25 @@ numberOf (taken r) = r .answer
 
 -- ---- twice round the ring
 
--- a packet of k slots, from buffer n on; and packets of so many slots each
+-- k slots more of a packet, from buffer n on, i slots passed: a sixth is empty. A packet of k slots, and packets of so many slots each
+unfoldable pub slotsFrom : ℕ → ℕ → ℕ → List Slot
+slotsFrom i n zero = []
+slotsFrom i n (suc zero) = cond (ltb i dataSlots) (lastIn n) (emptyIn n) ∷ []
+slotsFrom i n (suc (suc k)) = partIn n ∷ slotsFrom (suc i) (suc n) (suc k)
+
 unfoldable pub packetFrom : ℕ → ℕ → List Slot
-packetFrom n zero = []
-packetFrom n (suc zero) = lastIn n ∷ []
-packetFrom n (suc (suc k)) = partIn n ∷ packetFrom (suc n) (suc k)
+packetFrom n k = slotsFrom 0 n k
 
 unfoldable pub packetsFrom : ℕ → List ℕ → List (List Slot)
 packetsFrom n [] = []
 packetsFrom n (k ∷ ks) = packetFrom n k ∷ packetsFrom (n + k) ks
 
--- 31 slots, again 31, and two more, in packets of one to five slots. The first of `full` lies over the ring's end.
+-- 31 slots, again 31, and two more, in packets of one to six slots. The first of `full` lies over the ring's end.
 abbrev pub single : List (List Slot)
-single = packetsFrom 1 (1 ∷ 2 ∷ 3 ∷ 4 ∷ 5 ∷ 1 ∷ 2 ∷ 3 ∷ 4 ∷ 5 ∷ 1 ∷ [])
+single = packetsFrom 1 (1 ∷ 2 ∷ 3 ∷ 4 ∷ 5 ∷ 6 ∷ 1 ∷ 2 ∷ 3 ∷ 4 ∷ [])
 
 abbrev pub full : List (List Slot)
-full = packetsFrom 32 (5 ∷ 4 ∷ 3 ∷ 2 ∷ 1 ∷ 5 ∷ 4 ∷ 3 ∷ 2 ∷ 1 ∷ 1 ∷ [])
+full = packetsFrom 32 (6 ∷ 5 ∷ 4 ∷ 3 ∷ 2 ∷ 1 ∷ 4 ∷ 3 ∷ 2 ∷ 1 ∷ [])
 
 abbrev pub rest : List (List Slot)
 rest = packetsFrom 63 (2 ∷ [])
@@ -187,14 +196,21 @@ pub record Short : Type 0 where
 
 -- ---- writes that the device's rules refuse
 
-abbrev pub five : List Slot
-five = packetFrom 1 5
+-- a packet of six slots, and the world behind so many of its writes
+abbrev pub six : List Slot
+six = packetFrom 1 6
+
+abbrev pub behind : ℕ → World
+behind k = end start (map postFor six ++ map writeTo (take k six))
 
 pub record Refused : Type 0 where
   -- where nothing is posted, and where all that is posted is written
   pub none-posted : Allowed start (writeTo (lastIn 1)) → ⊥
-  pub none-left : Allowed (end start (map postFor five ++ map writeTo five)) (writeTo (lastIn 6)) → ⊥
-  -- a fifth slot without EOP
-  pub fifth-open : Allowed (end start (map postFor five ++ map writeTo (take 4 five))) (writeTo (partIn 5)) → ⊥
+  pub none-left : Allowed (behind 6) (writeTo (lastIn 7)) → ⊥
+  -- an empty first slot
+  pub first-empty : Allowed (behind 0) (writeTo (emptyIn 1)) → ⊥
+  -- a sixth slot with data, and an empty one without EOP
+  pub sixth-data : Allowed (behind 5) (writeTo (lastIn 6)) → ⊥
+  pub sixth-open : Allowed (behind 5) (write (record { word0 = 6; word1 = 1 })) → ⊥
   -- the slot at the tail is not the device's
   pub at-tail : Unreturned start 0 → ⊥

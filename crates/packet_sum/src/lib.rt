@@ -5,6 +5,7 @@ use measure::checksum::mix;
 use measure::checksum::number;
 use receive::Packet;
 use receive::Taken;
+use scan::PACKET_SLOTS;
 use writeback::WriteBack;
 
 fn half(sum: u64, x: u16) -> u64 {
@@ -19,20 +20,20 @@ fn flag(sum: u64, x: bool) -> u64 {
     mix(sum, x as u64)
 }
 
-fn five(sum: u64, a: u64, b: u64, c: u64, d: u64, e: u64) -> u64 {
-    mix(mix(mix(mix(mix(sum, a), b), c), d), e)
+fn three(sum: u64, a: u64, b: u64, c: u64) -> u64 {
+    mix(mix(mix(sum, a), b), c)
 }
 
-fn addresses(sum: u64, a: [u64; 5]) -> u64 {
-    five(sum, a[0], a[1], a[2], a[3], a[4])
+fn addresses(sum: u64, a: [u64; PACKET_SLOTS]) -> u64 {
+    three(three(sum, a[0], a[1], a[2]), a[3], a[4], a[5])
 }
 
-fn five_numbers(sum: u64, a: usize, b: usize, c: usize, d: usize, e: usize) -> u64 {
-    number(number(number(number(number(sum, a), b), c), d), e)
+fn three_numbers(sum: u64, a: usize, b: usize, c: usize) -> u64 {
+    number(number(number(sum, a), b), c)
 }
 
-fn lengths(sum: u64, a: [usize; 5]) -> u64 {
-    five_numbers(sum, a[0], a[1], a[2], a[3], a[4])
+fn lengths(sum: u64, a: [usize; PACKET_SLOTS]) -> u64 {
+    three_numbers(three_numbers(sum, a[0], a[1], a[2]), a[3], a[4], a[5])
 }
 
 fn flags(sum: u64, w: WriteBack) -> u64 {

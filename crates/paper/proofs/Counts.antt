@@ -6,7 +6,7 @@ use Rattle.ring.specs.Slots.{run}
 use Rattle.receive.specs.Queue as rx
 use Rattle.scan.specs.Slots.{postedSlots}
 use Rattle.receive.specs.Post.{postAnswer}
-use Rattle.scan.specs.Scan.{lengthOk, endOk, andThen, scan}
+use Rattle.scan.specs.Scan.{allowed, andThen, scan}
 use Rattle.scan.specs.Told.{sum, padded, lastWords}
 use Rattle.receive.specs.Take.{packetOf, look, takeBy, takeOf}
 use Rattle.segments.specs.Touch.{countBelow, someBelow, startOf, isCrowded}
@@ -18,7 +18,7 @@ use Rattle.paper.specs.Paper.{post, posts, full, written, took}
 use Rattle.paper.specs.Counts.{Counts}
 
 pub counts : Counts
-unfolding allBelow run rx.recordOk rx.lentOk rx.freshOf postedSlots postAnswer lengthOk endOk andThen scan look sum padded lastWords packetOf takeBy takeOf countBelow someBelow startOf isCrowded piecesOk addressesOk headersOk segmentationOk requestOk tx.recordOk tx.lentOk sendAnswer post posts full written took
+unfolding allBelow run rx.recordOk rx.lentOk rx.freshOf postedSlots postAnswer allowed andThen scan look sum padded lastWords packetOf takeBy takeOf countBelow someBelow startOf isCrowded piecesOk addressesOk headersOk segmentationOk requestOk tx.recordOk tx.lentOk sendAnswer post posts full written took
 counts =
     record {
       refused-zero = refl;

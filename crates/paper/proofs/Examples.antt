@@ -9,7 +9,7 @@ use Rattle.ring.specs.Queue.{askedOf}
 use Rattle.receive.specs.Queue as rx
 use Rattle.scan.specs.Slots.{postedSlots}
 use Rattle.receive.specs.Post.{postAnswer}
-use Rattle.scan.specs.Scan.{lengthOk, endOk, andThen, scan}
+use Rattle.scan.specs.Scan.{allowed, andThen, scan}
 use Rattle.scan.specs.Told.{sum, padded, lastWords}
 use Rattle.receive.specs.Take.{packetOf, look, takeBy, takeOf}
 use Rattle.interrupt.specs.Interrupt.{interruptOf}
@@ -21,7 +21,7 @@ use Rattle.transmit.specs.Send.{sendAnswer}
 use Rattle.paper.specs.Paper.{Paper, post, posts, full, written, took, afterTake}
 
 pub examples : Paper
-unfolding allBelow familyOf writeBackOf run rx.recordOk rx.lentOk rx.freshOf askedOf postedSlots postAnswer lengthOk endOk andThen scan look sum padded lastWords packetOf takeBy takeOf interruptOf countBelow someBelow startOf isCrowded piecesOk addressesOk headersOk segmentationOk requestOk tx.recordOk tx.lentOk tx.freshOf sendAnswer post posts full written took afterTake
+unfolding allBelow familyOf writeBackOf run rx.recordOk rx.lentOk rx.freshOf askedOf postedSlots postAnswer allowed andThen scan look sum padded lastWords packetOf takeBy takeOf interruptOf countBelow someBelow startOf isCrowded piecesOk addressesOk headersOk segmentationOk requestOk tx.recordOk tx.lentOk tx.freshOf sendAnswer post posts full written took afterTake
 examples =
     record {
       plain-60 = refl;

@@ -1,3 +1,4 @@
 pub mod Paper
 pub mod Bursts
 pub mod Counts
+pub mod Sixth

@@ -53,7 +53,7 @@ module _ (q : RxQueue) (ring list out : List ℕ) (limit : ℕ) where
       go true = some
       go false = none
 
-  -- the slots examined are at most five times the packets plus five, whatever came of it
+  -- the slots examined are at most six times the packets plus six, whatever came of it
   pub burst-few : burstOf q ring list out limit .examined ≤ packetSlots * burstOf q ring list out limit .packets + packetSlots
   unfolding burstOf handing sum
   burst-few =
@@ -143,7 +143,7 @@ module _ (q : RxQueue) (ring list out : List ℕ) (limit : ℕ) (z : burstOf q r
   not-stopped : stoppedBy (takes q ring list out limit) ≡ 0
   not-stopped = rw (burst-is q ring list out limit refl accepted) at z
 
-  -- as many packets as the limit, and the slots examined are at most five times these
+  -- as many packets as the limit, and the slots examined are at most six times these
   pub burst-up-to : burstOf q ring list out limit .packets ≡ limit
   burst-up-to = rw (burst-is q ring list out limit refl accepted) (up-to-limit ring list limit q not-stopped)
 

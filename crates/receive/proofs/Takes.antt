@@ -63,7 +63,7 @@ module _ (q : RxQueue) (ring list : List ℕ) where
       let e : take (length p) slots ≡ p = ap (λ (x : List Slot). take (length p) x) (b .are) ∙ take-append-seam p (b .rest) in
       record {
         some = has-some (q .buffer) 0 p (b .complete);
-        five = omega arith;
+        few = omega arith;
         within = seen-posted (q .shared) ring list (q .buffer) 0 p h;
         accepted = a;
         complete = rw e (b .complete);
@@ -95,9 +95,9 @@ module _ (q : RxQueue) (ring list : List ℕ) where
       let a : t .packet .addresses ≡ padded (addressesOf (take n slots)) = ap (λ (x : Taken). x .packet .addresses) (u .is) in
       let l : t .packet .lengths ≡ padded (lengthsOf (take n slots)) = ap (λ (x : Taken). x .packet .lengths) (u .is) in
       record {
-        address-at = λ i h. rw a (place-at (q .shared) ring list (λ (s : Slot). s .address) n (u .five) (u .within) i h);
-        length-at = λ i h. rw l (place-at (q .shared) ring list (λ (s : Slot). lengthOf (s .words)) n (u .five) (u .within) i h);
-        address-past = λ i h. rw a (place-past (q .shared) ring list (λ (s : Slot). s .address) n (u .five) (u .within) i h);
-        length-past = λ i h. rw l (place-past (q .shared) ring list (λ (s : Slot). lengthOf (s .words)) n (u .five) (u .within) i h);
+        address-at = λ i h. rw a (place-at (q .shared) ring list (λ (s : Slot). s .address) n (u .few) (u .within) i h);
+        length-at = λ i h. rw l (place-at (q .shared) ring list (λ (s : Slot). lengthOf (s .words)) n (u .few) (u .within) i h);
+        address-past = λ i h. rw a (place-past (q .shared) ring list (λ (s : Slot). s .address) n (u .few) (u .within) i h);
+        length-past = λ i h. rw l (place-past (q .shared) ring list (λ (s : Slot). lengthOf (s .words)) n (u .few) (u .within) i h);
         total-is = ap (λ (x : Taken). x .packet .total) (u .is);
       }

@@ -196,7 +196,7 @@ module _ (ring list : List ℕ) where
       (λ n q ms z r. rw (eq-eqb _ _ z) r)
       (λ n q ne. rw (ne-eqb _ _ ne) (λ x. ap (λ (r : RxQueue). takeOf r ring list .answer) (ap (λ (y : Taken). y .queue) (take-refused q ring list ne))))
 
-  -- ---- the slots examined: at most five a take, so five a packet, and five more where a take stopped it
+  -- ---- the slots examined: at most six a take, so six a packet, and six more where a take stopped it
 
   take-few : (m : Made) → examinedBy ring list m ≤ packetSlots
   take-few m = omega (arith, reads-few (m .on .buffer) 0 (postedSlots (m .on .shared) ring list) (omega arith))

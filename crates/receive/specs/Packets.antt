@@ -16,10 +16,10 @@ use Rattle.receive.specs.Queue.{lentOk}
 use Rattle.receive.specs.Take.{packetOf, advanced}
 
 module _ (q : RxQueue) (ring list : List ℕ) (t : Taken) where
-  -- answer 0: a packet of one to five slots, which are the first posted ones
+  -- answer 0: a packet of one to six slots, which are the first posted ones
   pub record HandedUp : Type 0 where
     pub some : 1 ≤ t .packet .count
-    pub five : t .packet .count ≤ packetSlots
+    pub few : t .packet .count ≤ packetSlots
     pub within : t .packet .count ≤ q .shared .posted
     pub accepted : lentOk q (length ring) (length list) ≡ true
     pub complete : Complete (q .buffer) 0 (take (t .packet .count) (postedSlots (q .shared) ring list))

@@ -3,12 +3,12 @@
 use Prim.Native.Nat.{ℕ}
 use mathlib.Core.Bool.{not, cond}
 use mathlib.Core.List.{List, [], _∷_}
-use lib.ListN.{length}
+use lib.ListN.{length, replicate}
 use Rattle.rules.specs.Rules.{Check, _when_}
 use Rattle.ring.specs.Queue as Ring
 use Rattle.writeback.specs.WriteBack.{writeBackOf, noWriteBack}
 use Rattle.scan.specs.Slots.{Slot, postedSlots}
-use Rattle.scan.specs.Scan.{Look, refuse, whole, scan, slotChecks}
+use Rattle.scan.specs.Scan.{packetSlots, Look, refuse, whole, scan, slotChecks}
 use Rattle.scan.specs.Told.{sum, padded, addressesOf, lengthsOf, lastWords}
 use Rattle.receive.specs.declared.RxQueue.{RxQueue}
 use Rattle.receive.specs.declared.Packet.{Packet}
@@ -44,8 +44,8 @@ noPacket =
     record {
       count = 0;
       total = 0;
-      addresses = 0 ∷ 0 ∷ 0 ∷ 0 ∷ 0 ∷ [];
-      lengths = 0 ∷ 0 ∷ 0 ∷ 0 ∷ 0 ∷ [];
+      addresses = replicate packetSlots 0;
+      lengths = replicate packetSlots 0;
       last = noWriteBack;
     }
 

@@ -16,22 +16,14 @@ use Rattle.ring.specs.Queue.{slotOf}
 use Rattle.ring.proofs.Runs.{length-run, getD-run, run-take}
 use Rattle.places.specs.Words.{dd, eop}
 use Rattle.scan.specs.Slots.{Slot, slotIn, postedSlots}
-use Rattle.scan.specs.Scan.{packetSlots, lengthOk, endOk, allowed, writable, Complete, ends, goes, goesOn, examined, Look, refuse, whole, andThen, scan, slotChecks}
+use Rattle.scan.specs.Scan.{packetSlots, allowed, writable, Complete, ends, goes, goesOn, examined, Look, refuse, whole, andThen, scan, slotChecks}
 use Rattle.scan.specs.Told.{padded}
 use Rattle.scan.proofs.Packets.{padded-at, map-at}
-use Rattle.scan.proofs.Walk.{not-done, not-allowed, allowed-last, allowed-on, not-fifth}
-
-module _ (buffer k : ℕ) (s : Slot) where
-  parts : writable buffer k (s .words) ≡ true → (dd (s .words) ≡ true) × (allowed buffer k (s .words) ≡ true)
-  unfolding writable
-  parts w = both (dd (s .words)) (allowed buffer k (s .words)) w
-
-  joined : dd (s .words) ≡ true → lengthOk buffer k (s .words) ≡ true → endOk k (s .words) ≡ true → writable buffer k (s .words) ≡ true
-  unfolding writable
-  joined d l e = rw (d, l, e)
+use Rattle.scan.proofs.Rule.{goes-on, parts, joined}
+use Rattle.scan.proofs.Walk.{not-done, not-allowed, allowed-last, allowed-on}
 
 module _ (buffer : ℕ) where
-  -- a packet has a slot, and at most five
+  -- a packet has a slot, and at most six
   pub has-some : (k : ℕ) (p : List Slot) → Complete buffer k p → 1 ≤ length p
   has-some k (s ∷ []) (ends w e) = omega arith
   has-some k (s ∷ p) (goes w e c) = omega arith
@@ -39,14 +31,14 @@ module _ (buffer : ℕ) where
   pub has-few : (k : ℕ) (p : List Slot) → k < packetSlots → Complete buffer k p → k + length p ≤ packetSlots
   has-few k (s ∷ []) h (ends w e) = omega arith
   has-few k (s ∷ p) h (goes w e c) =
-      omega (arith, has-few (suc k) p (not-fifth buffer k s (parts buffer k s w .1) e) c)
+      omega (arith, has-few (suc k) p (omega (arith, goes-on buffer k (s .words) (parts buffer k (s .words) w .1) e .1)) c)
 
   -- a scan of slots that begin with a packet sees it whole
   pub is-seen : (k : ℕ) (p rest : List Slot) → Complete buffer k p → scan buffer k (p ++ rest) ≡ whole p
   unfolding andThen
-  is-seen k (s ∷ []) rest (ends w e) = let b = parts buffer k s w in allowed-last buffer k s rest (b .0) (b .1) e
+  is-seen k (s ∷ []) rest (ends w e) = let b = parts buffer k (s .words) w in allowed-last buffer k s rest (b .0) (b .1) e
   is-seen k (s ∷ p) rest (goes w e c) =
-      let b = parts buffer k s w in
+      let b = parts buffer k (s .words) w in
       allowed-on buffer k s (p ++ rest) (b .0) (b .1) e ∙ rw (is-seen (suc k) p rest c)
 
 -- a packet, and the slots after it
@@ -60,7 +52,7 @@ pub seen-is : (buffer k : ℕ) (slots p : List Slot) → scan buffer k slots ≡
 unfolding scan andThen
 seen-is buffer k [] p h = let z : _≡_ {A = ℕ} 0 1 = cc in absurd (omega arith)
 seen-is buffer k (s ∷ rest) p h =
-    go (dd (s .words)) (lengthOk buffer k (s .words)) (endOk k (s .words)) (eop (s .words)) (scan buffer (suc k) rest) refl refl refl refl h (λ p′. seen-is buffer (suc k) rest p′)
+    go (dd (s .words)) (allowed buffer k (s .words)) (eop (s .words)) (scan buffer (suc k) rest) refl refl refl h (λ p′. seen-is buffer (suc k) rest p′)
   where
     onward : (l : Look) → andThen s l ≡ whole p → writable buffer k (s .words) ≡ true → eop (s .words) ≡ false
         → ((p′ : List Slot) → l ≡ whole p′ → Begins buffer (suc k) rest p′) → Begins buffer k (s ∷ rest) p
@@ -70,33 +62,30 @@ seen-is buffer k (s ∷ rest) p h =
         let q : s ∷ p′ ≡ p = cc in
         rw (← q) (record { complete = goes w e (b .complete); rest = b .rest; are = ap (λ (x : List Slot). s ∷ x) (b .are) })
 
-    go : (d l n e : Bool) (f : Look) → dd (s .words) ≡ d → lengthOk buffer k (s .words) ≡ l → endOk k (s .words) ≡ n → eop (s .words) ≡ e
-        → cond (not d) (refuse 4) (cond (not l) (refuse 5) (cond (not n) (refuse 5) (cond e (whole (s ∷ [])) (andThen s f)))) ≡ whole p
+    go : (d a e : Bool) (f : Look) → dd (s .words) ≡ d → allowed buffer k (s .words) ≡ a → eop (s .words) ≡ e
+        → cond (not d) (refuse 4) (cond (not a) (refuse 5) (cond e (whole (s ∷ [])) (andThen s f))) ≡ whole p
         → ((p′ : List Slot) → f ≡ whole p′ → Begins buffer (suc k) rest p′) → Begins buffer k (s ∷ rest) p
-    go false l n e f hd hl hn he h r = let z : _≡_ {A = ℕ} 0 1 = cc in absurd (omega arith)
-    go true false n e f hd hl hn he h r = let z : _≡_ {A = ℕ} 0 1 = cc in absurd (omega arith)
-    go true true false e f hd hl hn he h r = let z : _≡_ {A = ℕ} 0 1 = cc in absurd (omega arith)
-    go true true true true f hd hl hn he h r =
+    go false a e f hd ha he h r = let z : _≡_ {A = ℕ} 0 1 = cc in absurd (omega arith)
+    go true false e f hd ha he h r = let z : _≡_ {A = ℕ} 0 1 = cc in absurd (omega arith)
+    go true true true f hd ha he h r =
         let q : s ∷ [] ≡ p = cc in
-        rw (← q) (record { complete = ends (joined buffer k s hd hl hn) he; rest = rest; are = refl })
-    go true true true false f hd hl hn he h r = onward f h (joined buffer k s hd hl hn) he r
+        rw (← q) (record { complete = ends (joined buffer k (s .words) hd ha) he; rest = rest; are = refl })
+    go true true false f hd ha he h r = onward f h (joined buffer k (s .words) hd ha) he r
 
 -- a scan refuses with 4 or 5
 pub refused-with : (buffer k : ℕ) (slots : List Slot) (n : ℕ) → scan buffer k slots ≡ refuse n → (n ≡ 4) ⊎ (n ≡ 5)
 unfolding scan andThen
 refused-with buffer k [] n h = inl (cc)
 refused-with buffer k (s ∷ rest) n h =
-    go (dd (s .words)) (lengthOk buffer k (s .words)) (endOk k (s .words)) (eop (s .words)) (scan buffer (suc k) rest) h (λ m. refused-with buffer (suc k) rest m)
+    go (dd (s .words)) (allowed buffer k (s .words)) (eop (s .words)) (scan buffer (suc k) rest) h (λ m. refused-with buffer (suc k) rest m)
   where
-    go : (d l e o : Bool) (f : Look)
-        → cond (not d) (refuse 4) (cond (not l) (refuse 5) (cond (not e) (refuse 5) (cond o (whole (s ∷ [])) (andThen s f)))) ≡ refuse n
+    go : (d a e : Bool) (f : Look) → cond (not d) (refuse 4) (cond (not a) (refuse 5) (cond e (whole (s ∷ [])) (andThen s f))) ≡ refuse n
         → ((m : ℕ) → f ≡ refuse m → (m ≡ 4) ⊎ (m ≡ 5)) → (n ≡ 4) ⊎ (n ≡ 5)
-    go false l e o f h r = inl (cc)
-    go true false e o f h r = inr (cc)
-    go true true false o f h r = inr (cc)
-    go true true true true f h r = let z : _≡_ {A = ℕ} 0 1 = cc in absurd (omega arith)
-    go true true true false (refuse m) h r = let e : m ≡ n = cc in rw (← e) (r m refl)
-    go true true true false (whole p) h r = let z : _≡_ {A = ℕ} 0 1 = cc in absurd (omega arith)
+    go false a e f h r = inl (cc)
+    go true false e f h r = inr (cc)
+    go true true true f h r = let z : _≡_ {A = ℕ} 0 1 = cc in absurd (omega arith)
+    go true true false (refuse m) h r = let e : m ≡ n = cc in rw (← e) (r m refl)
+    go true true false (whole p) h r = let z : _≡_ {A = ℕ} 0 1 = cc in absurd (omega arith)
 
 -- ---- the slots that a scan examines
 
@@ -106,12 +95,12 @@ module _ (buffer k : ℕ) (s : Slot) (g : goesOn buffer k (s .words) ≡ true) w
   unfolding goesOn
   going =
       let b = both (writable buffer k (s .words)) (not (eop (s .words))) g in
-      let p = parts buffer k s (b .0) in
+      let p = parts buffer k (s .words) (b .0) in
       (p .0, p .1, not-true _ (b .1))
 
-  -- so never behind the fifth
+  -- so never behind the sixth
   goes-within : suc k < packetSlots
-  goes-within = not-fifth buffer k s (going .1) (going .2)
+  goes-within = omega (arith, goes-on buffer k (s .words) (going .1) (going .2) .1)
 
   -- and what it sees is the slot before what it sees behind it
   goes-alike : (r r′ : List Slot) → scan buffer (suc k) r ≡ scan buffer (suc k) r′ → scan buffer k (s ∷ r) ≡ scan buffer k (s ∷ r′)
@@ -129,7 +118,7 @@ module _ (buffer : ℕ) where
       go true r = omega arith
       go false r = omega arith
 
-  -- at most five
+  -- at most six
   pub reads-few : (k : ℕ) (slots : List Slot) → k < packetSlots → k + examined buffer k slots ≤ packetSlots
   unfolding examined
   reads-few k [] h = omega arith
@@ -193,16 +182,15 @@ pub scan-answer : (buffer k : ℕ) (slots : List Slot) → numberOf (scan buffer
 unfolding scan slotChecks
 scan-answer buffer k [] = refl
 scan-answer buffer k (s ∷ rest) =
-    go (not (dd (s .words))) (not (lengthOk buffer k (s .words))) (not (endOk k (s .words))) (eop (s .words)) (scan-answer buffer (suc k) rest)
+    go (not (dd (s .words))) (not (allowed buffer k (s .words))) (eop (s .words)) (scan-answer buffer (suc k) rest)
   where
-    go : (d l e o : Bool) → numberOf (scan buffer (suc k) rest) ≡ answerOf (slotChecks buffer (suc k) rest)
-        → numberOf (cond d (refuse 4) (cond l (refuse 5) (cond e (refuse 5) (cond o (whole (s ∷ [])) (andThen s (scan buffer (suc k) rest))))))
-        ≡ cond d 4 (cond l 5 (cond e 5 (cond o 0 (answerOf (slotChecks buffer (suc k) rest)))))
-    go true l e o r = refl
-    go false true e o r = refl
-    go false false true o r = refl
-    go false false false true r = refl
-    go false false false false r = number-then s (scan buffer (suc k) rest) ∙ r
+    go : (d a e : Bool) → numberOf (scan buffer (suc k) rest) ≡ answerOf (slotChecks buffer (suc k) rest)
+        → numberOf (cond d (refuse 4) (cond a (refuse 5) (cond e (whole (s ∷ [])) (andThen s (scan buffer (suc k) rest)))))
+        ≡ cond d 4 (cond a 5 (cond e 0 (answerOf (slotChecks buffer (suc k) rest))))
+    go true a e r = refl
+    go false true e r = refl
+    go false false true r = refl
+    go false false false r = number-then s (scan buffer (suc k) rest) ∙ r
 
 module _ (q : Queue) (ring list : List ℕ) where
   abbrev slots : List Slot

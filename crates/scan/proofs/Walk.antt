@@ -2,15 +2,12 @@
 -- Assumes nothing.
 use Prim.Native.Nat.{ℕ, suc, _+_, _-_, _*_, _/_, _^_, _≤_, _<_}
 use mathlib.Core.Path.{_≡_, refl, sym, ap, _∙_}
-use mathlib.Core.Bool.{Bool, true, false, not, _&&_, _||_, cond}
+use mathlib.Core.Bool.{Bool, true, false, cond}
 use mathlib.Core.List.{List, [], _∷_, _++_, map}
 use native.Mathlib.Nat.{zero-add, add-zero, sub-zero, add-suc, mod-lt}
 use native.Mathlib.Numerals.{add-one}
 use native.Mathlib.Omega.{arith}
-use borrow.Author.Tests.{ltb-true}
-use lib.Dec.{ltb}
 use lib.ListN.{length, set, length-map}
-use Rattle.rules.proofs.Tests.{both}
 use Rattle.ring.specs.declared.Queue.{Queue}
 use Rattle.ring.specs.Slots.{run}
 use Rattle.ring.specs.Queue.{slotOf, advanced}
@@ -18,18 +15,12 @@ use Rattle.ring.proofs.Runs.{length-run, run-snoc}
 use Rattle.places.specs.Places.{lengthPlace}
 use Rattle.places.specs.Words.{Words, dd, eop, lengthOf}
 use Rattle.scan.specs.Slots.{Slot, slotIn, postedSlots}
-use Rattle.scan.specs.Scan.{packetSlots, lengthOk, endOk, allowed, goesOn, examined, writable, Look, refuse, whole, andThen, scan}
+use Rattle.scan.specs.Scan.{packetSlots, allowed, goesOn, examined, writable, Look, refuse, whole, andThen, scan}
 use Rattle.scan.specs.Told.{sum, padded, addressesOf, lengthsOf, seenOf, seenBy}
+use Rattle.scan.proofs.Rule.{goes-on}
 use Rattle.scan.proofs.Packets.{padded-more, sum-more, map-more, last-more, after, after-more, after-refuse, after-whole}
 
 -- ---- one slot of a scan
-
--- a slot that is allowed and is not the last is not the fifth
-pub not-fifth : (buffer k : ℕ) (s : Slot) → allowed buffer k (s .words) ≡ true → eop (s .words) ≡ false → suc k < packetSlots
-unfolding endOk
-not-fifth buffer k s a e =
-    let b = both (lengthOk buffer k (s .words)) (eop (s .words) || ltb (suc k) packetSlots) a .1 in
-    ltb-true (suc k) packetSlots (rw e at b)
 
 module _ (buffer k : ℕ) (s : Slot) (rest : List Slot) where
   pub not-done : dd (s .words) ≡ false → scan buffer k (s ∷ rest) ≡ refuse 4
@@ -38,20 +29,15 @@ module _ (buffer k : ℕ) (s : Slot) (rest : List Slot) where
 
   pub not-allowed : dd (s .words) ≡ true → allowed buffer k (s .words) ≡ false → scan buffer k (s ∷ rest) ≡ refuse 5
   unfolding scan
-  not-allowed d a = rw d (go (lengthOk buffer k (s .words)) (endOk k (s .words)) a)
-    where
-      go : (l e : Bool) → l && e ≡ false → cond (not l) (refuse 5) (cond (not e) (refuse 5) (cond (eop (s .words)) (whole (s ∷ [])) (andThen s (scan buffer (suc k) rest)))) ≡ refuse 5
-      go false e z = refl
-      go true false z = refl
-      go true true z = let y : _≡_ {A = ℕ} 0 1 = cc in absurd (omega arith)
+  not-allowed d a = rw (d, a)
 
   pub allowed-last : dd (s .words) ≡ true → allowed buffer k (s .words) ≡ true → eop (s .words) ≡ true → scan buffer k (s ∷ rest) ≡ whole (s ∷ [])
   unfolding scan
-  allowed-last d a e = let b = both (lengthOk buffer k (s .words)) (endOk k (s .words)) a in rw (d, b .0, b .1, e)
+  allowed-last d a e = rw (d, a, e)
 
   pub allowed-on : dd (s .words) ≡ true → allowed buffer k (s .words) ≡ true → eop (s .words) ≡ false → scan buffer k (s ∷ rest) ≡ andThen s (scan buffer (suc k) rest)
   unfolding scan
-  allowed-on d a e = let b = both (lengthOk buffer k (s .words)) (endOk k (s .words)) a in rw (d, b .0, b .1, e)
+  allowed-on d a e = rw (d, a, e)
 
 module _ (q : Queue) (ring list : List ℕ) where
   -- the slot at distance k from head; the first k slots, and those after them
@@ -101,9 +87,9 @@ module _ (q : Queue) (buffer : ℕ) (ring list : List ℕ) where
   unfolding run
   none-placed = record { addresses-are = refl; lengths-are = refl }
 
--- the two rules of a slot look at its word 1 alone
+-- the rule of a slot looks at its word 1 alone
 word1-only : (buffer k : ℕ) (x : Words) → allowed buffer k (record { word0 = 0; word1 = x .word1 }) ≡ allowed buffer k x
-unfolding lengthOk endOk
+unfolding allowed
 word1-only buffer k x = refl
 
 module _ (q : Queue) (buffer : ℕ) (ring list : List ℕ) (total k : ℕ) (w : Walked q buffer ring list total k) where
@@ -173,7 +159,7 @@ module _ (q : Queue) (buffer : ℕ) (ring list : List ℕ) (total k : ℕ) (w : 
     unfolding goesOn writable
     next d a e =
         record {
-          few = omega (arith, not-fifth buffer k here (allow a) e);
+          few = omega (arith, goes-on buffer k (here .words) (allow a) e .1);
           within = omega arith;
           so-far = from-here _ (allowed-on _ _ here _ d (allow a) e) ∙ rw (more, add-one k) (sym (after-more _ _ _));
           read = reads true (rw (d, allow a, e)) ∙ rw (add-one k) (omega arith);

@@ -1,3 +1,4 @@
 pub mod Slots
 pub mod Scan
+pub mod Packet
 pub mod Told

@@ -1,32 +1,31 @@
--- The device's rules on a packet's slots, and what a scan of the posted slots sees (01, "Receiving").
+-- The device's rules on a packet's slots, and what a scan of the posted slots sees (01, "Receiving"; 02, "A full packet followed by an empty slot").
 -- Assumes nothing.
-use Prim.Native.Nat.{ℕ, suc}
+use Prim.Native.Nat.{ℕ, suc, _+_}
 use mathlib.Core.Path.{_≡_}
 use mathlib.Core.Bool.{Bool, true, false, not, _&&_, _||_, cond}
 use mathlib.Core.List.{List, [], _∷_}
-use lib.Dec.{leb, ltb}
+use lib.Dec.{leb, ltb, eqb}
 use Rattle.rules.specs.Rules.{Check, _when_}
 use Rattle.places.specs.Words.{Words, dd, eop, lengthOf}
 use Rattle.scan.specs.Slots.{Slot}
 
 -- ---- the device's rules
 
--- a packet is 1 to 5 slots
+-- a packet is one to five slots with data, then at most one of length 0, which is its last (the dummy of Section 2.1.3): so it has at most six slots
+abbrev pub dataSlots : ℕ
+dataSlots = 5
+
 abbrev pub packetSlots : ℕ
-packetSlots = 5
+packetSlots = dataSlots + 1
 
--- each length is 1 to the buffer size, except that the last of two or more slots may be 0; k slots of the packet come before this one
-unfoldable pub lengthOk : ℕ → ℕ → Words → Bool
-lengthOk buffer k x = leb (lengthOf x) buffer && (leb 1 (lengthOf x) || (eop x && leb 1 k))
+-- what the rules allow in a slot with k slots of its packet before it: at most the buffer size; below the sixth 1 byte or more, or 0 with EOP and
+-- not first; in the sixth 0 with EOP
+unfoldable pub allowed : ℕ → ℕ → Words → Bool
+allowed buffer k x =
+    leb (lengthOf x) buffer
+    && cond (ltb k dataSlots) (leb 1 (lengthOf x) || (eop x && leb 1 k)) (eqb (lengthOf x) 0 && eop x)
 
--- only its last has EOP: a slot with k before it either has it, or is not the fifth
-unfoldable pub endOk : ℕ → Words → Bool
-endOk k x = eop x || ltb (suc k) packetSlots
-
--- what the rules allow in a slot whose packet has k slots before it, and what the device may write there
-abbrev pub allowed : ℕ → ℕ → Words → Bool
-allowed buffer k x = lengthOk buffer k x && endOk k x
-
+-- and so what the device may write there
 unfoldable pub writable : ℕ → ℕ → Words → Bool
 writable buffer k x = dd x && allowed buffer k x
 
@@ -46,16 +45,15 @@ unfoldable pub andThen : Slot → Look → Look
 andThen s (refuse n) = refuse n
 andThen s (whole p) = whole (s ∷ p)
 
--- the posted slots from head upward, k slots of the packet passed: past the posted ones or DD clear, 4; a length that the rules
--- forbid at that place, 5; a fifth slot without EOP, 5; with EOP the packet is complete
+-- the posted slots from head upward, k slots of the packet passed: past the posted ones or DD clear, 4; what the rules do not allow at that
+-- place, 5; with EOP the packet is complete
 unfoldable pub scan : ℕ → ℕ → List Slot → Look
 scan buffer k [] = refuse 4
 scan buffer k (s ∷ rest) =
     cond (not (dd (s .words))) (refuse 4)
-    (cond (not (lengthOk buffer k (s .words))) (refuse 5)
-    (cond (not (endOk k (s .words))) (refuse 5)
+    (cond (not (allowed buffer k (s .words))) (refuse 5)
     (cond (eop (s .words)) (whole (s ∷ []))
-    (andThen s (scan buffer (suc k) rest)))))
+    (andThen s (scan buffer (suc k) rest))))
 
 -- a slot that a scan goes on behind: one that the device may write at its place, and not the last of its packet
 unfoldable pub goesOn : ℕ → ℕ → Words → Bool
@@ -66,13 +64,12 @@ unfoldable pub examined : ℕ → ℕ → List Slot → ℕ
 examined buffer k [] = 0
 examined buffer k (s ∷ rest) = suc (cond (goesOn buffer k (s .words)) (examined buffer (suc k) rest) 0)
 
--- the same as checks in their order, for the exact cause of each number: at each slot DD clear 4, a length that the rules forbid 5,
--- a fifth slot without EOP 5, EOP done; past the posted ones 4
+-- the same as checks in their order, for the exact cause of each number: at each slot DD clear 4, what the rules do not allow there 5, EOP done;
+-- past the posted ones 4
 unfoldable pub slotChecks : ℕ → ℕ → List Slot → List Check
 slotChecks buffer k [] = 4 when true ∷ []
 slotChecks buffer k (s ∷ rest) =
     4 when not (dd (s .words))
-    ∷ 5 when not (lengthOk buffer k (s .words))
-    ∷ 5 when not (endOk k (s .words))
+    ∷ 5 when not (allowed buffer k (s .words))
     ∷ 0 when eop (s .words)
     ∷ slotChecks buffer (suc k) rest

@@ -1,16 +1,16 @@
 // The posted slots of a receive ring, from head upward, until one completes the packet or refuses.
 ghost use mathlib.Core.Path.{_≡_};
-ghost use Prim.Native.Nat.{_<_};
 ghost use lib.ListN.{length};
-ghost use Rattle.ring.specs.Sizes.{mostSize};
 ghost use Rattle.ring.specs.Steps.{Lent};
 ghost use Rattle.scan.specs.Slots.{postedSlots};
 ghost use Rattle.scan.specs.Scan.{Look, allowed, scan};
 ghost use Rattle.scan.specs.Told.{seenBy};
 use ring::Queue;
 
-// A packet is 1 to 5 slots.
-pub const PACKET_SLOTS: usize = 5;
+// A packet is 1 to 5 slots with data, then at most one of length 0, which is its last.
+const DATA_SLOTS: usize = 5;
+
+pub const PACKET_SLOTS: usize = DATA_SLOTS + 1;
 
 // What a scan gives: the answer, the record's shared part after it, and of a packet the slot count, the total length, each slot's address and length
 // (places past the slots are 0) and the last slot's words.
@@ -25,14 +25,17 @@ pub struct Seen {
     pub word1: u64,
 }
 
-// What the device's rules allow in a slot with k slots of its packet before it.
+// What the device's rules allow in a slot with k slots of its packet before it: one with data has at most four before it, an empty one is the last of
+// its packet and not the first.
 pub fn slot_ok(buffer: usize, k: usize, word1: u64) -> bool
-    requires { ⌜ k < mostSize ⌝ }
     ensures { λ r. ⌜ r ≡ allowed buffer k (record { word0 = 0; word1 = word1 }) ⌝ }
 {
     let length = places::length(word1);
-    let last = places::eop(word1);
-    ((length <= buffer) & ((1 <= length) | (last & (1 <= k)))) & (last | (k + 1 < PACKET_SLOTS))
+    if length == 0 {
+        places::eop(word1) & (1 <= k)
+    } else {
+        (length <= buffer) & (k < DATA_SLOTS)
+    }
 }
 
 // A refusal: the record as it came, and zeros.

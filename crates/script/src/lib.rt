@@ -18,7 +18,7 @@ pub const GIVEN: usize = 13;
 pub const NUMBERS: usize = GIVEN + RING;
 
 // The numbers of the longest answer: a take.
-pub const LONGEST: usize = 34;
+pub const LONGEST: usize = 36;
 
 // The first numbers of a line, by their place.
 pub struct Given {

@@ -46,6 +46,8 @@ fn with_slots(row: Row, packet: Packet) -> Row {
             wide(l[3]),
             a[4],
             wide(l[4]),
+            a[5],
+            wide(l[5]),
         ],
     )
 }
