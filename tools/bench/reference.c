@@ -560,6 +560,12 @@ static inline uint64_t last_word(uint64_t i)
     return 0x68000300B | (64 + i % 1024) << 38;
 }
 
+/* an empty last slot */
+static inline uint64_t empty_word(void)
+{
+    return 0x68000300B;
+}
+
 static inline void device_writes(uint64_t *ring, size_t ring_length, size_t at, uint64_t word0, uint64_t word1)
 {
     if (at < SIZE_MOST) {
@@ -602,7 +608,7 @@ static uint64_t rx_rounds(uint64_t *restrict ring, size_t ring_length, uint64_t 
     for (uint64_t i = 0; i < rounds; i++) {
         for (uint64_t k = 1; k < slots; k++)
             run = fill(run, ring, ring_length, list, list_length, i, middle_word(), idle);
-        run = fill(run, ring, ring_length, list, list_length, i, last_word(i), idle);
+        run = fill(run, ring, ring_length, list, list_length, i, slots < PACKET_SLOTS ? last_word(i) : empty_word(), idle);
         struct rx_taken taken = idle ? seen : rx_take(run.queue, ring, ring_length, list, list_length);
         run.queue = taken.queue;
         run.sum = mix_taken(run.sum, &taken);

@@ -40,6 +40,11 @@ pub fn last_word(i: u64) -> u64 {
     LAST | (64 + i % 1024) << LENGTH
 }
 
+// An empty last slot.
+pub fn empty_word() -> u64 {
+    LAST
+}
+
 // The write-back of a received slot, with a number of the packet's in word 0.
 pub fn write_back(ring: &mut [u64], at: usize, i: u64, word1: u64) {
     if at < MOST_SLOTS {

@@ -7,6 +7,7 @@ use receive::Posted;
 use receive::RxQueue;
 use receive::Taken;
 use receive_run::Run;
+use scan::PACKET_SLOTS;
 
 fn address(i: u64) -> u64 {
     0x100000 | (i % 4096) << 11
@@ -70,6 +71,15 @@ fn fill_middle(
     run
 }
 
+// What ends a packet of so many slots: a last slot behind the slots with data is empty.
+fn end_word(slots: u64, i: u64) -> u64 {
+    if slots < PACKET_SLOTS as u64 {
+        device::last_word(i)
+    } else {
+        device::empty_word()
+    }
+}
+
 // A packet of so many slots, posted, written back and taken.
 fn one_round(
     begun: Run,
@@ -81,7 +91,7 @@ fn one_round(
     idle: bool,
 ) -> Run {
     let middle = fill_middle(begun, ring, list, slots, i, idle);
-    let full = fill(middle, ring, list, i, device::last_word(i), idle);
+    let full = fill(middle, ring, list, i, end_word(slots, i), idle);
     hand_up(full, ring, list, seen, idle)
 }
 

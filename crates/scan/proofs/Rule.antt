@@ -3,7 +3,7 @@
 use Prim.Native.Nat.{ℕ, _≤_, _<_}
 use mathlib.Core.Path.{_≡_, refl, sym, _∙_}
 use mathlib.Core.Logic.{_≢_, _⊎_, inl, inr}
-use mathlib.Core.Bool.{Bool, true, false, _&&_, cond, and-true, true≢false}
+use mathlib.Core.Bool.{Bool, true, false, _&&_, cond, and-true, and-false, true≢false}
 use native.Mathlib.Decide.{ℕ-discrete}
 use native.Mathlib.Omega.{arith}
 use borrow.Author.Tests.{leb-true, ltb-true, ltb-false, le-leb, ne-eqb}
@@ -28,9 +28,9 @@ module _ (buffer k : ℕ) (x : Words) where
   unfolding allowed
   of-data n = rw (le-leb 1 (lengthOf x) (omega arith), ne-eqb (lengthOf x) 0 n) (go (ltb k dataSlots))
     where
-      go : (b : Bool) → leb (lengthOf x) buffer && cond b true false ≡ leb (lengthOf x) buffer && b
+      go : (b : Bool) → cond b (leb (lengthOf x) buffer && true) false ≡ leb (lengthOf x) buffer && b
       go true = refl
-      go false = refl
+      go false = sym (and-false (leb (lengthOf x) buffer))
 
   -- so an allowed slot is one of the two
   abbrev Empty : Type 0

@@ -18,12 +18,13 @@ dataSlots = 5
 abbrev pub packetSlots : ℕ
 packetSlots = dataSlots + 1
 
--- what the rules allow in a slot with k slots of its packet before it: at most the buffer size; below the sixth 1 byte or more, or 0 with EOP and
+-- what the rules allow in a slot with k slots of its packet before it: below the sixth at most the buffer size, and 1 byte or more, or 0 with EOP and
 -- not first; in the sixth 0 with EOP
 unfoldable pub allowed : ℕ → ℕ → Words → Bool
 allowed buffer k x =
-    leb (lengthOf x) buffer
-    && cond (ltb k dataSlots) (leb 1 (lengthOf x) || (eop x && leb 1 k)) (eqb (lengthOf x) 0 && eop x)
+    cond (ltb k dataSlots)
+    (leb (lengthOf x) buffer && (leb 1 (lengthOf x) || (eop x && leb 1 k)))
+    (eqb (lengthOf x) 0 && eop x)
 
 -- and so what the device may write there
 unfoldable pub writable : ℕ → ℕ → Words → Bool

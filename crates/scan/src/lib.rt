@@ -25,16 +25,17 @@ pub struct Seen {
     pub word1: u64,
 }
 
-// What the device's rules allow in a slot with k slots of its packet before it: one with data has at most four before it, an empty one is the last of
-// its packet and not the first.
+// What the device's rules allow in a slot with k slots of its packet before it: below the sixth at most the buffer size, and 0 only in a last slot that
+// is not the first; in the sixth 0, and it is the last.
 pub fn slot_ok(buffer: usize, k: usize, word1: u64) -> bool
     ensures { λ r. ⌜ r ≡ allowed buffer k (record { word0 = 0; word1 = word1 }) ⌝ }
 {
     let length = places::length(word1);
-    if length == 0 {
-        places::eop(word1) & (1 <= k)
+    let last = places::eop(word1);
+    if k < DATA_SLOTS {
+        (length <= buffer) & ((1 <= length) | (last & (1 <= k)))
     } else {
-        (length <= buffer) & (k < DATA_SLOTS)
+        (length == 0) & last
     }
 }
 

@@ -1,8 +1,8 @@
--- `slot_ok` meets its contract: the rule by what the slot holds.
+-- `slot_ok` meets its contract: below the sixth slot, and in it.
 -- Assumes nothing.
-use mathlib.Core.Path.{sym, _∙_}
+use borrow.Author.Tests.{lt-ltb, le-ltb}
 use borrow.Author.Needs.{needs}
-use Rattle.scan.proofs.Rule.{of-empty, of-data}
+use Rattle.scan.specs.Scan.{allowed}
 use Rattle.scan.proofs.slot_ok.Statement.{statement}
 use Rattle.scan.proofs.slot_ok.Tie as tie
 
@@ -13,10 +13,12 @@ eop-requires : tie.Need-eop-requires
 eop-requires c κs = search needs
 
 returns : tie.Need-returns
-returns c = rw (c .eop .ensures) (sym (of-empty _ _ _ (sym (c .before .before .length .ensures) ∙ c .before .if1 .taken)))
+unfolding allowed
+returns c = rw (lt-ltb _ _ (c .if1 .taken), c .before .before .length .ensures, c .before .eop .ensures)
 
 returns-2 : tie.Need-returns-2
-returns-2 c = rw (c .before .length .ensures) (sym (of-data _ _ _ (λ z. c .if1 .left (c .before .length .ensures ∙ z))))
+unfolding allowed
+returns-2 c = rw (le-ltb _ _ (c .if1 .left), c .before .before .length .ensures, c .before .eop .ensures)
 
 pub slot-ok-spec : {M : Type 1} → statement M
 slot-ok-spec = tie.close (tie.spec length-requires eop-requires returns returns-2)
