@@ -3,12 +3,12 @@
 use crate::author::Author;
 use crate::interrupt::{LEAVE, MOST_INTERVAL, OFF, ON};
 use crate::record::Direction;
-use crate::{bad_lines, burst_aims, count_aims, receive_aims, transmit_aims};
+use crate::{bad_lines, burst_aims, count_aims, receive_aims, sixth_aims, transmit_aims};
 
 type Aim = fn(&mut Author);
 
 /// How often each aim is taken, against the others.
-const AIMS: [(u64, Aim); 35] = [
+const AIMS: [(u64, Aim); 36] = [
     (6, receive_aims::fresh),
     (20, receive_aims::refused_fresh),
     (20, receive_aims::post),
@@ -26,6 +26,7 @@ const AIMS: [(u64, Aim); 35] = [
     (10, burst_aims::write),
     (20, count_aims::receive_disagrees),
     (12, count_aims::last_posts),
+    (20, sixth_aims::fifth_and_sixth),
     (6, transmit_aims::fresh),
     (20, transmit_aims::refused_fresh),
     (40, transmit_aims::plain),
@@ -49,7 +50,7 @@ const AIMS: [(u64, Aim); 35] = [
 /// A line of thousands of pieces is long, so these come once in so many aims.
 const MANY_ONE_IN: u64 = 250;
 const LONG_ONE_IN: u64 = 30_000;
-/// Packets of five slots for the longest burst are some 170 lines.
+/// Packets of six slots for the longest burst are some 210 lines.
 const LONGEST_BURST_ONE_IN: u64 = 1_000;
 
 pub fn generate(seed: u64, lines: usize) -> Vec<u8> {

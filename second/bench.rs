@@ -4,12 +4,13 @@
 use crate::burst;
 use crate::burst_cover::{self, Scene};
 use crate::count_cover::{self, Waiting};
-use crate::cover::Seen;
+use crate::cover::{self, Seen};
 use crate::interrupt;
 use crate::receive::{self, Packet};
 use crate::record::{Direction, Judged, Record};
 use crate::script::{self, Command};
 use crate::segments;
+use crate::sixth_cover::{self, Queue};
 use crate::transmit::{self, Lent, Send};
 use std::fmt::Write;
 
@@ -192,9 +193,11 @@ impl Bench {
 
     fn take(&mut self, out: &mut String) {
         let rx = &self.rx;
-        let judged = receive::take(rx.record, &rx.ring[..rx.lent_ring], &rx.list[..rx.lent_list]);
+        let (ring, list) = (&rx.ring[..rx.lent_ring], &rx.list[..rx.lent_list]);
+        let judged = receive::take(rx.record, ring, list);
+        sixth_cover::TAKE.met(Queue { record: rx.record, ring, list }, &mut self.seen);
         let done = match &judged {
-            Ok((_, packet)) => packet_kind(packet),
+            Ok((_, packet)) => cover::packet_kind(packet),
             Err(_) => "",
         };
         let answer = self.note("take", &judged, done);
@@ -335,21 +338,6 @@ fn take_line(answer: u8, record: &Record, packet: &Packet, out: &mut String) {
 /// A sum of a list: h becomes rotl(h, 7) xor x for each number x.
 pub fn sum(numbers: &[u64]) -> u64 {
     numbers.iter().fold(0u64, |h, x| h.rotate_left(7) ^ x)
-}
-
-fn packet_kind(packet: &Packet) -> &'static str {
-    let dummy = packet.lengths[packet.count as usize - 1] == 0;
-    match (packet.count, dummy) {
-        (1, _) => "1 slot",
-        (2, false) => "2 slots",
-        (2, true) => "2 slots with a dummy",
-        (3, false) => "3 slots",
-        (3, true) => "3 slots with a dummy",
-        (4, false) => "4 slots",
-        (4, true) => "4 slots with a dummy",
-        (_, false) => "5 slots",
-        (_, true) => "5 slots with a dummy",
-    }
 }
 
 fn send_kind(request: &Send) -> &'static str {

@@ -109,7 +109,7 @@ fn packets(author: &mut Author, record: &Record, counts: &[u64]) {
     for count in counts {
         for place in 1..=*count {
             let last = place == *count;
-            let dummy = last && place > 1 && author.random.one_in(6);
+            let dummy = place == MOST || last && place > 1 && author.random.one_in(6);
             let bytes = if dummy { 0 } else { length(&mut author.random, record.limit) };
             let word = word1(&mut author.random, bytes, last);
             written(author, record, distance, word);
@@ -190,20 +190,16 @@ fn aimed(author: &mut Author, packets: u64) {
     author.say_padded(&format!("burst {limit} {LENT}"));
 }
 
-/// 31 packets of five slots and a last one whose fifth slot is not written, wrong or its end: a
+/// 31 packets of six slots and a last one whose sixth slot is wrong, not written or its end: a
 /// burst that examines as many slots as it can, and bursts over fewer of these packets.
 pub fn longest(author: &mut Author) {
     let counts = vec![MOST; MOST_PACKETS as usize];
     let slots = MOST * MOST_PACKETS;
     let record = queue_of(&mut author.random, slots);
     packets(author, &record, &counts);
-    for kind in 0..4 {
-        let random = &mut author.random;
-        let bytes = if kind == 0 { record.limit + 1 } else { length(random, record.limit) };
-        let mut word = word1(random, bytes, kind == 3);
-        if kind == 1 {
-            word &= !1;
-        }
+    for (bytes, flags) in [(0, 1), (0, 2), (1, 3), (0, 3)] {
+        let bytes = bytes * length(&mut author.random, record.limit);
+        let word = word1(&mut author.random, bytes, true) & !0b11 | flags;
         written(author, &record, slots - 1, word);
         author.rxset(record);
         author.say(format!("burst {MOST_PACKETS} {LENT}"));
@@ -211,7 +207,9 @@ pub fn longest(author: &mut Author) {
         author.rxset(record.moved_on(MOST * fewer));
         poll(author);
     }
-    mend(author);
+    // the last sixth slot is past the posted ones
+    author.rxset(record.with_posted(slots - 1));
+    author.say(format!("burst {MOST_PACKETS} {LENT}"));
 }
 
 /// A driver that polls: buffers are posted, packets come, and a burst takes them.

@@ -1,9 +1,11 @@
 //! What a script met of bursts: clauses beyond the number that is printed, and the fields' bits.
 
 use crate::burst::{Burst, LENT, MOST_PACKETS, NUMBERS};
-use crate::cover::Seen;
-use crate::receive::{self, MOST_SLOTS};
+use crate::cover::{self, Seen};
+use crate::receive::{self, EMPTY_FIRST, EMPTY_NOT_LAST, MOST_SLOTS, NOT_POSTED, NOT_WRITTEN};
+use crate::receive::{SIXTH, SIXTH_WITH_DATA, TOO_LONG};
 use crate::record::{bits, Judged, Record, Refusal};
+use crate::sixth_cover::{self, Queue};
 
 /// A burst that was made: what came in, and what it gave.
 pub struct Scene<'a> {
@@ -20,6 +22,7 @@ pub struct Scene<'a> {
 
 /// The names under which the clauses stand in the table, beside `burst` itself.
 const PACKETS: &str = "burst packets";
+const HANDED_UP: &str = "burst packet";
 const LAST: &str = "burst last take";
 const BOUND: &str = "burst examined";
 const LEFT: &str = "burst left";
@@ -42,6 +45,7 @@ const POSTED_END: [&str; MOST_SLOTS] = [
     "posted end before slot 3",
     "posted end before slot 4",
     "posted end before slot 5",
+    "posted end before slot 6",
 ];
 const CLEAR: [&str; MOST_SLOTS] = [
     "DD clear at slot 1",
@@ -49,6 +53,7 @@ const CLEAR: [&str; MOST_SLOTS] = [
     "DD clear at slot 3",
     "DD clear at slot 4",
     "DD clear at slot 5",
+    "DD clear at slot 6",
 ];
 const ZERO: [&str; MOST_SLOTS] = [
     "length 0 at slot 1",
@@ -56,6 +61,7 @@ const ZERO: [&str; MOST_SLOTS] = [
     "length 0 at slot 3",
     "length 0 at slot 4",
     "length 0 at slot 5",
+    "length 0 at slot 6",
 ];
 const ABOVE: [&str; MOST_SLOTS] = [
     "above the buffer size at slot 1",
@@ -63,12 +69,14 @@ const ABOVE: [&str; MOST_SLOTS] = [
     "above the buffer size at slot 3",
     "above the buffer size at slot 4",
     "above the buffer size at slot 5",
+    "above the buffer size at slot 6",
 ];
-const FIFTH: &str = "fifth slot without EOP";
 
 const AT_BOUND: &[&str] =
-    &["5 x 0 + 5", "5 x packets + 5, 1 to 30 packets", "5 x 31 + 5 = 160, the most"];
-const AT_LIMIT: &[&str] = &["5 x packets, 1 to 31 packets", "5 x 32 = 160, the most"];
+    &["6 x 0 + 6", "6 x packets + 6, 1 to 30 packets", "6 x 31 + 6 = 192, the most"];
+/// The sixth slot of the last packet is past the posted ones.
+const ONE_BELOW: &[&str] = &["6 x 0 + 5", "6 x packets + 5, 1 to 30 packets", "6 x 31 + 5 = 191"];
+const AT_LIMIT: &[&str] = &["6 x packets, 1 to 31 packets", "6 x 32 = 192, the most"];
 
 const ACROSS: &[&str] = &["a packet across the ring's end", "packets on both sides of the end"];
 const LIST_KEPT: &[&str] = &["list not 0 and kept"];
@@ -90,9 +98,13 @@ pub const CAUSES: &[(&str, u8, &[&str])] = &[
     (LAST, 4, &CLEAR),
     (LAST, 5, &ZERO),
     (LAST, 5, &ABOVE),
-    (LAST, 5, &[FIFTH]),
+    (LAST, 5, &SIXTH_WITH_DATA),
+    (HANDED_UP, 0, &cover::TAKEN),
+    (HANDED_UP, 4, &cover::TAKEN),
+    (HANDED_UP, 5, &cover::TAKEN),
     (BOUND, 0, AT_LIMIT),
     (BOUND, 4, AT_BOUND),
+    (BOUND, 4, ONE_BELOW),
     (BOUND, 5, AT_BOUND),
     (LEFT, 0, NEXT),
     (ROUND, 0, ACROSS),
@@ -176,9 +188,12 @@ impl Scene<'_> {
                 seen.answer(LEFT, 0, self.next(burst.record));
             }
             Err(stop) => {
+                let kind = usize::from(packets > 0) + usize::from(packets == MOST_PACKETS - 1);
                 if examined == most * packets + most {
-                    let kind = usize::from(packets > 0) + usize::from(packets == MOST_PACKETS - 1);
                     seen.answer(BOUND, answer, AT_BOUND[kind]);
+                }
+                if examined == most * packets + most - 1 && stop.cause == NOT_POSTED[SIXTH] {
+                    seen.answer(BOUND, answer, ONE_BELOW[kind]);
                 }
                 self.last_take(burst, &stop, seen);
             }
@@ -191,11 +206,11 @@ impl Scene<'_> {
         let handed_up = self.record.posted - burst.record.posted;
         let read = (burst.examined - handed_up) as usize;
         let clause = match stop.cause {
-            "posted 0" | "past the posted slots" => POSTED_END[read],
-            "DD clear in a first slot" | "DD clear later" => CLEAR[read - 1],
-            "0 first without EOP" | "0 later without EOP" | "0 first with EOP" => ZERO[read - 1],
-            "above the buffer size first" | "above the buffer size later" => ABOVE[read - 1],
-            _ => FIFTH,
+            cause if NOT_POSTED.contains(&cause) => POSTED_END[read],
+            cause if NOT_WRITTEN.contains(&cause) => CLEAR[read - 1],
+            cause if TOO_LONG.contains(&cause) => ABOVE[read - 1],
+            cause if EMPTY_NOT_LAST.contains(&cause) || cause == EMPTY_FIRST => ZERO[read - 1],
+            with_data => with_data,
         };
         seen.answer(LAST, stop.answer, clause);
         let tail = burst.record.tail() as usize;
@@ -219,11 +234,14 @@ impl Scene<'_> {
         }
     }
 
-    /// The packets once more, by plain takes, to see where each ends.
+    /// The takes once more, one by one, to see what each meets and where its packet ends.
     fn round(&self, burst: &Burst, seen: &mut Seen) {
         let (mut record, mut across) = (self.record, false);
-        for _ in 0..burst.packets {
-            if let Ok((after, packet)) = receive::take(record, self.ring, self.list) {
+        let Scene { ring, list, .. } = *self;
+        for _ in 0..burst.packets + u64::from(burst.stop.is_err()) {
+            sixth_cover::BURST.met(Queue { record, ring, list }, seen);
+            if let Ok((after, packet)) = receive::take(record, ring, list) {
+                seen.answer(HANDED_UP, answer_of(burst), cover::packet_kind(&packet));
                 across |= record.head + packet.count > record.size;
                 record = after;
             }

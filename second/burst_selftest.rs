@@ -11,7 +11,8 @@ use crate::selftest::Checks;
 pub fn all(checks: &mut Checks) {
     refusals(checks);
     two_packets(checks);
-    five_slots(checks);
+    six_slots(checks);
+    most_slots(checks);
     examined_twice(checks);
     lines(checks);
 }
@@ -91,18 +92,48 @@ fn two_packets(checks: &mut Checks) {
     checks.equal("wrong", on_sevens(four, &ring, 32, 96).0, Ok((2, 4, 2, 1, 5)));
 }
 
-/// A packet of five slots, then five whose last is not the end: 5 x packets + 5.
-fn five_slots(checks: &mut Checks) {
+/// A packet of six slots, then six whose last is wrong, not written or not posted: 6 x packets + 6,
+/// and one less where the sixth is not read.
+fn six_slots(checks: &mut Checks) {
     let mut ring = vec![0; 64];
-    for slot in 0..10 {
-        ring[2 * slot + 1] = length(10) | if slot == 4 { 3 } else { 1 };
+    for slot in 0..12 {
+        ring[2 * slot + 1] = length(10) | 1;
     }
-    let record = Record { queue: 0, size: 32, head: 0, limit: 2048, ..Record::counted(5, 10) };
-    checks.equal("fifth, wrong", on_sevens(record, &ring, 32, 96).0, Ok((1, 10, 5, 5, 5)));
-    ring[19] = 0;
-    checks.equal("fifth, not written", on_sevens(record, &ring, 32, 96).0, Ok((1, 10, 5, 5, 4)));
-    let nine = record.with_posted(9);
-    checks.equal("fifth, not posted", on_sevens(nine, &ring, 32, 96).0, Ok((1, 9, 5, 4, 4)));
+    ring[11] = 3;
+    ring[23] = 1;
+    let record = Record { queue: 0, size: 32, head: 0, limit: 2048, ..Record::counted(5, 12) };
+    checks.equal("sixth, wrong", on_sevens(record, &ring, 32, 96).0, Ok((1, 12, 6, 6, 5)));
+    ring[23] = length(10) | 3;
+    checks.equal("sixth, with data", on_sevens(record, &ring, 32, 96).0, Ok((1, 12, 6, 6, 5)));
+    ring[23] = 2;
+    checks.equal("sixth, not written", on_sevens(record, &ring, 32, 96).0, Ok((1, 12, 6, 6, 4)));
+    ring[23] = 3;
+    let eleven = record.with_posted(11);
+    checks.equal("sixth, not posted", on_sevens(eleven, &ring, 32, 96).0, Ok((1, 11, 6, 5, 4)));
+    let (found, out) = on_sevens(record, &ring, 2, 96);
+    checks.equal("two packets of six", found, Ok((2, 12, 12, 0, 0)));
+    checks.equal("told", &out[..7], &[0, 6, 50, 6, 6, 50, 7]);
+}
+
+/// 32 packets of six slots on a ring of 224: the most that a burst reads is 6 x 32.
+fn most_slots(checks: &mut Checks) {
+    let (mut ring, list) = (vec![0; 448], vec![0; 224]);
+    for slot in 0..192 {
+        ring[2 * slot + 1] = if slot % 6 == 5 { 3 } else { length(1024) | 1 };
+    }
+    let counted = Record::counted(5, 192);
+    let record = Record { queue: 0, size: 224, head: 0, limit: 1024, ..counted };
+    let found = |record, ring: &[u64], limit| {
+        outcome(burst::burst(record, ring, &list, &mut [7; LENT as usize], limit))
+    };
+    checks.equal("32 of six", found(record, &ring, 32), Ok((32, 192, 192, 0, 0)));
+    checks.equal("31 of six", found(record, &ring, 31), Ok((31, 186, 186, 6, 0)));
+    let one_less = record.with_posted(191);
+    checks.equal("6 x 31 + 5", found(one_less, &ring, 32), Ok((31, 191, 186, 5, 4)));
+    ring[383] = 1;
+    checks.equal("6 x 31 + 6", found(record, &ring, 32), Ok((31, 192, 186, 6, 5)));
+    ring[383] = 0;
+    checks.equal("6 x 31 + 6", found(record, &ring, 32), Ok((31, 192, 186, 6, 4)));
 }
 
 /// The slots that a take reads, seen from outside: a clear word 1 makes it answer 4 at that slot,
@@ -116,13 +147,15 @@ fn read_by_take(record: Record, ring: &[u64], list: &[u64]) -> u64 {
     (0..list.len()).filter(|slot| with(*slot, 0) != with(*slot, 1)).count() as u64
 }
 
-/// Mostly short packets, with few slots that stop.
+/// Packets of a few slots, with few that stop.
 fn random_word1(random: &mut Random) -> u64 {
+    let eop = |random: &mut Random| u64::from(random.one_in(3)) << 1;
     match random.below(24) {
         0 => random.next(),
-        1 => length(random.below(2) * 1025) | 1 | random.below(2) << 1,
+        1 => length(random.below(2) * 1025) | 1 | eop(random),
         2 => 0,
-        _ => length(random.between(1, 1024)) | 1 | random.below(2) << 1,
+        3 | 4 => 3,
+        _ => length(random.between(1, 1024)) | 1 | eop(random),
     }
 }
 
@@ -153,7 +186,7 @@ fn examined_twice(checks: &mut Checks) {
         let found = outcome(burst::burst(first, &ring, &list, &mut out, limit));
         checks.equal("takes", found, Ok((packets, examined, record.head, record.posted, stop)));
         checks.equal("the list", out, wanted);
-        let bound = 5 * packets + if stop == 0 { 0 } else { 5 };
+        let bound = 6 * packets + if stop == 0 { 0 } else { 6 };
         checks.equal("the bound", examined <= bound, true);
     }
 }

@@ -33,11 +33,11 @@ fn receive_lines(checks: &mut Checks) {
     let set = "rxset 0 32 31 2 9 7 2048 64 32";
     equal(checks, &format!("{set}\npost 4096"), "post 0 31 3 10 7\n");
     equal(checks, &format!("{set}\npost 0"), "post 2 31 2 9 7\n");
-    let none = " 0".repeat(29);
+    let none = " 0".repeat(31);
     equal(checks, &format!("{set}\ntake"), &format!("take 4 31 2 9 7{none}\n"));
     // slots 31 and 0 hold a packet of 100 and 60 bytes
     let set = format!("{set}\nrxpoke 63 27487790694401\nrxpoke 1 16492674416643");
-    let packet = format!("2 160 0 100 0 60{} 1 1{}", " 0".repeat(8), " 0".repeat(13));
+    let packet = format!("2 160 0 100 0 60{} 1 1{}", " 0".repeat(10), " 0".repeat(13));
     equal(checks, &format!("{set}\ntake"), &format!("take 0 1 0 9 9 {packet}\n"));
     let burst = said(&format!("{set}\nburst 1 96"));
     checks.equal("burst", burst.starts_with("burst 0 1 0 9 9 1 2 "), true);

@@ -1,9 +1,9 @@
 //! What a script met: calls and answers, the clause behind each answer, and each field's bits.
 
-use crate::receive::{self, Packet, FIELD_NAMES};
+use crate::receive::{self, Packet, DATA_SLOTS, FIELD_NAMES};
 use crate::record::bits;
 use crate::transmit::{Send, NO_ROOM_PLAIN, NO_ROOM_SEGMENTED};
-use crate::{burst_cover, count_cover};
+use crate::{burst_cover, count_cover, sixth_cover};
 use std::collections::BTreeMap;
 use std::fmt::Write;
 
@@ -36,7 +36,8 @@ impl Seen {
         self.masked(name, bits(u64::MAX, width - 1, 0), value);
     }
 
-    fn masked(&mut self, name: &'static str, free: u64, value: u64) {
+    /// A value of a field whose bits in `free` can be set and clear.
+    pub fn masked(&mut self, name: &'static str, free: u64, value: u64) {
         let field = self.fields.entry(name).or_insert(Bits { free, set: 0, clear: 0 });
         field.set |= value & free;
         field.clear |= !value & free;
@@ -60,6 +61,7 @@ impl Seen {
         }
         self.bits("write-back word 0", 64, words[0]);
         self.masked("write-back word 1", !0b11, words[1]);
+        sixth_cover::fields(packet, words, self);
     }
 
     /// An accepted send, read from its descriptors.
@@ -167,27 +169,25 @@ const LENT_TX: &[&str] = &[
 
 const BUFFER_CAUSES: &[&str] = &["address 0", "address + length passes 2^64"];
 
-const TAKEN: &[&str] = &[
-    "1 slot",
-    "2 slots",
-    "2 slots with a dummy",
-    "3 slots",
-    "3 slots with a dummy",
-    "4 slots",
-    "4 slots with a dummy",
-    "5 slots",
-    "5 slots with a dummy",
+/// The packets that are handed up: their slots with data, and whether a dummy follows.
+pub const TAKEN: [&str; 2 * DATA_SLOTS] = [
+    "1 slot with data",
+    "1 slot with data and a dummy",
+    "2 slots with data",
+    "2 slots with data and a dummy",
+    "3 slots with data",
+    "3 slots with data and a dummy",
+    "4 slots with data",
+    "4 slots with data and a dummy",
+    "5 slots with data",
+    "5 slots with data and a dummy",
 ];
-const NOT_YET: &[&str] =
-    &["posted 0", "past the posted slots", "DD clear in a first slot", "DD clear later"];
-const WRONG_WRITE_BACK: &[&str] = &[
-    "0 first without EOP",
-    "0 later without EOP",
-    "0 first with EOP",
-    "above the buffer size first",
-    "above the buffer size later",
-    "fifth slot without EOP",
-];
+
+pub fn packet_kind(packet: &Packet) -> &'static str {
+    let with_data = packet.lengths.iter().filter(|length| **length > 0).count();
+    let dummies = packet.count as usize - with_data;
+    TAKEN[2 * (with_data - 1) + dummies]
+}
 
 const SENT: &[&str] = &[
     "plain, IP none",
@@ -298,21 +298,29 @@ const CAUSES: &[(&str, u8, &[&str])] = &[
     ("post", 1, LENT_RX),
     ("post", 2, BUFFER_CAUSES),
     ("post", 3, &receive::NO_ROOM),
-    ("take", 0, TAKEN),
+    ("take", 0, &TAKEN),
     ("take", 1, ASKED_RX),
     ("take", 1, HANDED_IN),
     ("take", 1, count_cover::DISAGREE),
     ("take", 1, LENT_RX),
-    ("take", 4, NOT_YET),
-    ("take", 5, WRONG_WRITE_BACK),
+    ("take", 4, &receive::NOT_POSTED),
+    ("take", 4, &receive::NOT_WRITTEN),
+    ("take", 5, &receive::TOO_LONG),
+    ("take", 5, &receive::EMPTY_NOT_LAST),
+    ("take", 5, &[receive::EMPTY_FIRST]),
+    ("take", 5, &receive::SIXTH_WITH_DATA),
     ("burst", 0, burst_cover::LIMITS),
     ("burst", 1, ASKED_RX),
     ("burst", 1, HANDED_IN),
     ("burst", 1, count_cover::DISAGREE),
     ("burst", 1, LENT_RX),
     ("burst", 1, burst_cover::LENT_OUT),
-    ("burst", 4, NOT_YET),
-    ("burst", 5, WRONG_WRITE_BACK),
+    ("burst", 4, &receive::NOT_POSTED),
+    ("burst", 4, &receive::NOT_WRITTEN),
+    ("burst", 5, &receive::TOO_LONG),
+    ("burst", 5, &receive::EMPTY_NOT_LAST),
+    ("burst", 5, &[receive::EMPTY_FIRST]),
+    ("burst", 5, &receive::SIXTH_WITH_DATA),
     ("burst", 10, burst_cover::WRONG_LIMIT),
     ("rxtail", 1, ASKED_RX),
     ("rxtail", 1, HANDED_IN),
@@ -410,7 +418,8 @@ impl Seen {
 
     fn clauses(&self, every_clause: bool, text: &mut String) -> usize {
         let (mut clauses, mut met, mut gaps) = (0, 0, 0);
-        let beside = burst_cover::CAUSES.iter().chain(count_cover::CAUSES);
+        let beside =
+            burst_cover::CAUSES.iter().chain(count_cover::CAUSES).chain(sixth_cover::CAUSES);
         for (call, answer, causes) in CAUSES.iter().chain(beside) {
             for cause in *causes {
                 let times = self.answers.get(&(*call, *answer, *cause)).copied().unwrap_or(0);
@@ -458,7 +467,8 @@ impl Seen {
 }
 
 fn counted() -> impl Iterator<Item = &'static str> {
-    COUNTED.into_iter().chain(burst_cover::COUNTED).chain(count_cover::COUNTED)
+    let beside = burst_cover::COUNTED.into_iter().chain(count_cover::COUNTED);
+    COUNTED.into_iter().chain(beside).chain(sixth_cover::COUNTED)
 }
 
 fn mark(times: u64) -> &'static str {

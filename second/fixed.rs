@@ -2,7 +2,8 @@
 
 use crate::author::Author;
 use crate::script::LONGEST_LINE;
-use crate::{aims, bad_lines, fixed_burst, fixed_counts, fixed_receive, fixed_transmit};
+use crate::{aims, bad_lines};
+use crate::{fixed_burst, fixed_counts, fixed_receive, fixed_sixth, fixed_transmit};
 
 /// Random lines at the end, from a seed of their own.
 const RANDOM_LINES: usize = 4_000;
@@ -12,6 +13,9 @@ const SEED: u64 = 2026;
 /// another number of it.
 pub const BEFORE: u64 = 70_000;
 
+/// Word 1 of a slot of length 0 with EOP, its fields clear.
+pub const DUMMY: u64 = 3;
+
 pub fn script() -> Vec<u8> {
     let mut author = Author::new(SEED, usize::MAX);
     author.say("# Made by `second script`. Every call meets every answer that it can give, every");
@@ -20,6 +24,7 @@ pub fn script() -> Vec<u8> {
     author.say("");
     fixed_receive::all(&mut author);
     fixed_burst::all(&mut author);
+    fixed_sixth::all(&mut author);
     fixed_transmit::all(&mut author);
     fixed_counts::all(&mut author);
     bad(&mut author);

@@ -3,11 +3,12 @@
 
 use crate::author::Author;
 use crate::burst::{LENT, MOST_PACKETS, NUMBERS};
-use crate::fixed::BEFORE;
-use crate::receive::MOST_SLOTS;
+use crate::fixed::{BEFORE, DUMMY};
+use crate::receive::{DATA_SLOTS, MOST_SLOTS};
 use crate::record::Record;
 use crate::script::OUT;
 
+const DATA: u64 = DATA_SLOTS as u64;
 const MOST: u64 = MOST_SLOTS as u64;
 
 pub fn all(author: &mut Author) {
@@ -156,18 +157,20 @@ fn stops(author: &mut Author) {
     author.say("rxsum");
 }
 
-/// 32 packets of five slots, the last one's fifth slot not written, wrong, or its end: over the
-/// last 1 to 32 of them, so that each count of packets meets 5 x packets + 5.
+/// 32 packets of six slots, the last one's sixth slot wrong, not written, or its end: over the last
+/// 1 to 32 of them, so that each count of packets meets 6 x packets + 6. Where that slot is not
+/// posted, it is 6 x packets + 5.
 fn longest(author: &mut Author) {
-    author.say("# burst: packets of five slots");
+    author.say("# burst: packets of six slots");
     let slots = MOST * MOST_PACKETS;
     let counted = Record::counted(BEFORE, slots);
-    let record = Record { queue: 3, size: 192, head: 100, limit: 16_256, ..counted };
+    let record = Record { queue: 3, size: 224, head: 100, limit: 16_256, ..counted };
     for distance in 0..slots {
-        let flags = if distance % MOST == MOST - 1 { 3 } else { 1 };
-        written(author, &record, distance, length(16_256 - 64 * distance) | flags);
+        let with_data = distance % MOST < DATA;
+        let word1 = if with_data { length(16_256 - 64 * distance) | 1 } else { DUMMY };
+        written(author, &record, distance, word1);
     }
-    for word1 in [length(16_256) | 3, length(1) | 1, length(16_257) | 3, length(16_256) | 2] {
+    for word1 in [DUMMY, DUMMY & !2, DUMMY & !1, length(16_256) | 3] {
         written(author, &record, slots - 1, word1);
         for behind in 0..MOST_PACKETS {
             author.rxset(record.moved_on(MOST * behind));
@@ -176,27 +179,32 @@ fn longest(author: &mut Author) {
         author.rxset(record);
         burst(author, MOST_PACKETS - 1);
     }
-    for posted in slots - 6..slots {
+    for posted in slots - MOST..slots {
         author.rxset(record.with_posted(posted));
+        burst(author, MOST_PACKETS);
+    }
+    for behind in [0, 1, 16, 30, 31] {
+        author.rxset(record.with_posted(slots - 1).moved_on(MOST * behind));
         burst(author, MOST_PACKETS);
     }
 }
 
-/// Packets of one to five slots in turn, from each head near the ring's end and two others.
+/// Packets of one to six slots in turn, from each head near the ring's end and three others.
 fn rounds(author: &mut Author) {
     author.say("# burst: across the ring's end");
-    for head in [0, 1, 16, 27, 28, 29, 30, 31] {
+    for head in [0, 1, 13, 16, 27, 28, 29, 30, 31] {
         let record =
             Record { queue: 2, size: 32, head, limit: 1024, ..Record::counted(BEFORE, 31) };
         let mut distance = 0;
-        for count in [1, 2, 3, 4, 5].iter().cycle().take(10) {
-            for place in 1..=*count {
-                let flags = if place == *count { 3 } else { 1 };
-                written(author, &record, distance, length(head + distance + place) | flags);
+        for count in (1..=MOST).cycle().take(10) {
+            for place in 1..=count {
+                let bytes = if place == MOST { 0 } else { head + distance + place };
+                let flags = if place == count { 3 } else { 1 };
+                written(author, &record, distance, length(bytes) | flags);
                 distance += 1;
             }
         }
-        for (posted, limit) in [(31, 32), (31, 9), (30, 10), (29, 10), (15, 5), (14, 5)] {
+        for (posted, limit) in [(31, 32), (31, 9), (30, 10), (29, 10), (21, 6), (20, 6)] {
             author.rxset(record.with_posted(posted));
             burst(author, limit);
         }
@@ -221,17 +229,17 @@ fn first_slots_and_totals(author: &mut Author) {
     }
     let counted = Record::counted(BEFORE, 4095);
     let record = Record { queue: 0, size: 4096, head: 4095, limit: 16_256, ..counted };
-    for place in 0..MOST {
-        let flags = if place == MOST - 1 { 3 } else { 1 };
-        written(author, &record, place, length(16_256) | flags);
+    for place in 0..DATA {
+        written(author, &record, place, length(16_256) | 1);
     }
+    written(author, &record, DATA, DUMMY);
     author.rxset(record);
     burst(author, 1);
-    author.rxset(record.with_posted(5));
+    author.rxset(record.with_posted(MOST));
     burst(author, 2);
 }
 
-/// A driver that polls: posts, packets of one to five slots, dummies included, and bursts of each
+/// A driver that polls: posts, packets of one to six slots, dummies included, and bursts of each
 /// limit in turn, some of them while a packet is unfinished.
 fn laps(author: &mut Author) {
     author.say("# burst: laps");
@@ -246,7 +254,7 @@ fn laps(author: &mut Author) {
             let count = 1 + (turn + packet) % MOST;
             for place in 1..=count {
                 let last = place == count;
-                let dummy = last && place > 1 && turn % 3 == 0;
+                let dummy = place == MOST || last && place > 1 && turn % 3 == 0;
                 let bytes = if dummy { 0 } else { 1 + (turn * 37 + place * 211) % 1024 };
                 let flags = if last { 3 } else { 1 };
                 written(author, &record, distance, length(bytes) | flags);

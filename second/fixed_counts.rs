@@ -3,7 +3,7 @@
 
 use crate::author::Author;
 use crate::burst::LENT;
-use crate::fixed::BEFORE;
+use crate::fixed::{BEFORE, DUMMY};
 use crate::layouts;
 use crate::record::{Record, MOST_EVER};
 
@@ -171,9 +171,10 @@ fn last_posts(author: &mut Author) {
 fn last_takes(author: &mut Author) {
     author.say("# counts: slots that come back at the end");
     let five = [PART, PART, PART, PART, WHOLE];
+    let six = [PART, PART, PART, PART, PART, DUMMY];
     for (words, posted) in [
         (vec![WHOLE; 4], 4),
-        ([&five[..], &[PART, WHOLE]].concat(), 7),
+        ([&five[..], &six].concat(), 11),
         (vec![WHOLE, WHOLE, PART, 0], 4),
         (vec![WHOLE, WHOLE, WRONG], 3),
         (vec![PART, WRONG], 2),

@@ -2,7 +2,7 @@
 
 use crate::author::Author;
 use crate::fixed::BEFORE;
-use crate::receive::MOST_SLOTS;
+use crate::receive::{DATA_SLOTS, MOST_SLOTS};
 use crate::record::{Record, BUFFER, SIZE};
 
 /// 2^64 - 1, 2^63 and 2^32 stand for the numbers far past every limit.
@@ -182,7 +182,7 @@ fn packet_types(author: &mut Author) {
 fn places(author: &mut Author) {
     author.say("# receive: lengths at each place of a packet");
     let mut turn = 0;
-    for place in 0..=MOST_SLOTS as u64 {
+    for place in 0..MOST_SLOTS as u64 {
         for bytes in [0, 1, 1023, 1024, 1025, 16_383] {
             for flags in 0..4 {
                 turn += 1;
@@ -236,22 +236,22 @@ fn stale_laps(author: &mut Author) {
     author.say("rxsum");
 }
 
-/// Packets of one to five slots round a small ring, dummies included, one post for each slot.
+/// Packets of one to six slots round a small ring, dummies included, one post for each slot.
 fn laps(author: &mut Author) {
     author.say("# receive: laps");
     author.say("rx 3 32 1024");
-    for turn in 0..160u64 {
-        let count = 1 + turn % 5;
+    for turn in 0..150u64 {
+        let with_data = 1 + turn % DATA_SLOTS as u64;
+        let count = with_data + u64::from(turn % 3 == 0);
         for _ in 0..count {
             author.say(format!("post {}", 0x1_0000 + 0x800 * turn));
         }
         let head = author.bench.rx.record.head;
         for place in 0..count {
             author.say("take");
-            let last = place + 1 == count;
-            let dummy = last && place > 0 && turn % 3 == 0;
+            let dummy = place == with_data;
             let bytes = if dummy { 0 } else { 1 + (turn * 37 + place * 211) % 1024 };
-            let flags = if last { 3 } else { 1 };
+            let flags = if place + 1 == count { 3 } else { 1 };
             let fields = (turn * 0x9E37_79B9) & 0x3F_FC0F_FFFC;
             written(author, (head + place) % 32, turn << 16, fields | length(bytes) | flags);
         }

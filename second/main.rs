@@ -1,5 +1,5 @@
-//! The second program: document 01's calls with 02's burst and counts, written a second time from
-//! the documents alone, to be held against the proved library line by line.
+//! The second program: document 01's calls with 02's changes up to M-102, written a second time
+//! from the documents alone, to be held against the proved library line by line.
 
 mod aims;
 mod author;
@@ -18,6 +18,7 @@ mod fixed;
 mod fixed_burst;
 mod fixed_counts;
 mod fixed_receive;
+mod fixed_sixth;
 mod fixed_transmit;
 mod interrupt;
 mod layouts;
@@ -27,6 +28,9 @@ mod record;
 mod script;
 mod segments;
 mod selftest;
+mod sixth_aims;
+mod sixth_cover;
+mod sixth_selftest;
 mod transmit;
 mod transmit_aims;
 

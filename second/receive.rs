@@ -1,16 +1,35 @@
 //! Receiving: post, take and the write-back of Section 2.1.2.2.
 
-use crate::record::{bits, judge_buffer, judge_length, refuse, unless_broken};
+use crate::record::{bits, judge_buffer, judge_length, unless_broken};
 use crate::record::{Direction, Judged, Record};
 
-/// A packet is 1 to 5 slots.
-pub const MOST_SLOTS: usize = 5;
+/// A packet is one to five slots with data ..
+pub const DATA_SLOTS: usize = 5;
+
+/// .. and then at most one of length 0, last (the dummy of Section 2.1.3): the places of a packet.
+pub const MOST_SLOTS: usize = DATA_SLOTS + 1;
 
 pub const FIELDS: usize = 17;
 
 /// Why a post is answered 3.
 pub const NO_ROOM: [&str; 3] =
     ["all but one slot posted", "no count left", "all but one slot posted and no count left"];
+
+/// Why a take is answered 4: at a packet's first slot, at its second to fifth, at its sixth.
+pub const NOT_POSTED: [&str; 3] =
+    ["posted 0", "past the posted slots", "sixth past the posted slots"];
+pub const NOT_WRITTEN: [&str; 3] =
+    ["DD clear in a first slot", "DD clear later", "DD clear in a sixth slot"];
+pub const SIXTH: usize = 2;
+
+/// Why a take is answered 5, at these likewise; then what is wrong in a first slot alone, and what
+/// is in a sixth.
+pub const TOO_LONG: [&str; 3] =
+    ["above the buffer size first", "above the buffer size later", "sixth above the buffer size"];
+pub const EMPTY_NOT_LAST: [&str; 3] =
+    ["0 first without EOP", "0 later without EOP", "sixth of length 0 without EOP"];
+pub const EMPTY_FIRST: &str = "0 first with EOP";
+pub const SIXTH_WITH_DATA: [&str; 2] = ["sixth with data without EOP", "sixth with data and EOP"];
 
 /// The fields of a packet's last slot, in the order in which they print.
 pub const FIELD_NAMES: [&str; FIELDS] = [
@@ -72,16 +91,14 @@ pub fn take_counted(
 ) -> Judged<(Record, Packet)> {
     judge_lent(&record, ring.len(), list.len())?;
     let mut packet = Packet::default();
-    for place in 0..MOST_SLOTS {
-        if place as u64 >= record.posted {
-            return refuse(4, if place == 0 { "posted 0" } else { "past the posted slots" });
-        }
-        let slot = record.slot(place as u64);
+    for before in 0..MOST_SLOTS {
+        unless_broken(before as u64 >= record.posted, 4, NOT_POSTED[kind(before)])?;
+        let slot = record.slot(before as u64);
         let word1 = ring[2 * slot + 1];
         *examined += 1;
-        judge_slot(place, word1, record.limit)?;
-        packet.addresses[place] = list[slot];
-        packet.lengths[place] = length_of(word1);
+        judge_slot(before, word1, record.limit)?;
+        packet.addresses[before] = list[slot];
+        packet.lengths[before] = length_of(word1);
         packet.total += length_of(word1);
         packet.count += 1;
         if end_of_packet(word1) {
@@ -89,28 +106,34 @@ pub fn take_counted(
             return Ok((record.moved_on(packet.count), packet));
         }
     }
-    unreachable!("a fifth slot without EOP is refused")
+    unreachable!("a sixth slot without EOP is refused")
 }
 
-/// One slot met by take, `place` counted from 0 at the packet's first.
-fn judge_slot(place: usize, word1: u64, buffer: u64) -> Judged<()> {
-    let (done, eop, length) = (bits(word1, 0, 0) == 1, end_of_packet(word1), length_of(word1));
-    if !done {
-        return refuse(4, if place == 0 { "DD clear in a first slot" } else { "DD clear later" });
+/// Which of the three names a cause has at a slot.
+fn kind(before: usize) -> usize {
+    match before {
+        0 => 0,
+        DATA_SLOTS => SIXTH,
+        _ => 1,
     }
-    unless_broken(length == 0 && !eop && place == 0, 5, "0 first without EOP")?;
-    unless_broken(length == 0 && !eop, 5, "0 later without EOP")?;
-    unless_broken(length == 0 && place == 0, 5, "0 first with EOP")?;
-    unless_broken(length > buffer && place == 0, 5, "above the buffer size first")?;
-    unless_broken(length > buffer, 5, "above the buffer size later")?;
-    unless_broken(place == MOST_SLOTS - 1 && !eop, 5, "fifth slot without EOP")
 }
 
-fn end_of_packet(word1: u64) -> bool {
+/// One slot met by take, with so many slots of its packet before it.
+fn judge_slot(before: usize, word1: u64, buffer: u64) -> Judged<()> {
+    let (done, eop, length) = (bits(word1, 0, 0) == 1, end_of_packet(word1), length_of(word1));
+    let (first, sixth) = (before == 0, before == DATA_SLOTS);
+    unless_broken(!done, 4, NOT_WRITTEN[kind(before)])?;
+    unless_broken(length > buffer, 5, TOO_LONG[kind(before)])?;
+    unless_broken(length == 0 && !eop, 5, EMPTY_NOT_LAST[kind(before)])?;
+    unless_broken(length == 0 && first, 5, EMPTY_FIRST)?;
+    unless_broken(length > 0 && sixth, 5, SIXTH_WITH_DATA[usize::from(eop)])
+}
+
+pub fn end_of_packet(word1: u64) -> bool {
     bits(word1, 1, 1) == 1
 }
 
-fn length_of(word1: u64) -> u64 {
+pub fn length_of(word1: u64) -> u64 {
     bits(word1, 51, 38)
 }
 

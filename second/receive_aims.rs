@@ -2,7 +2,7 @@
 
 use crate::author::{Author, Random};
 use crate::burst_aims::{poll, take_or_poll};
-use crate::receive::MOST_SLOTS;
+use crate::receive::{DATA_SLOTS, MOST_SLOTS};
 use crate::record::{Direction, Record, BUFFER, SIZE};
 
 pub fn fresh(author: &mut Author) {
@@ -95,8 +95,13 @@ fn unwritten(author: &Author) -> u64 {
 }
 
 fn write_back(author: &mut Author, distance: u64, length: u64, eop: bool) {
-    let slot = author.bench.rx.record.slot(distance);
-    let (word0, word1) = (author.random.next(), word1(&mut author.random, length, eop));
+    let (record, word1) = (author.bench.rx.record, word1(&mut author.random, length, eop));
+    written(author, &record, distance, word1);
+}
+
+/// The device writes both words of the slot at this distance from the record's head.
+pub fn written(author: &mut Author, record: &Record, distance: u64, word1: u64) {
+    let (slot, word0) = (record.slot(distance), author.random.next());
     author.say(format!("rxpoke {} {word0}", 2 * slot));
     author.say(format!("rxpoke {} {word1}", 2 * slot + 1));
 }
@@ -120,20 +125,19 @@ pub fn device_packet(author: &mut Author) {
     let first = unwritten(author);
     // now and then as long as a packet can be
     let longest = author.random.one_in(8);
-    let most = MOST_SLOTS as u64;
-    let count = if longest { most } else { author.random.between(1, most) };
+    let most = DATA_SLOTS as u64;
+    let with_data = if longest { most } else { author.random.between(1, most) };
+    let count = with_data + u64::from(author.random.one_in(3));
     if first + count > record.posted {
         return;
     }
     for place in 0..count {
-        let last = place + 1 == count;
-        let mut bytes = length(&mut author.random, record.limit);
-        if longest {
-            bytes = record.limit;
-        } else if last && place > 0 && author.random.one_in(3) {
-            bytes = 0;
-        }
-        write_back(author, first + place, bytes, last);
+        let bytes = match place < with_data {
+            true if longest => record.limit,
+            true => length(&mut author.random, record.limit),
+            false => 0,
+        };
+        write_back(author, first + place, bytes, place + 1 == count);
         if author.random.one_in(6) {
             // taken while the packet is unfinished
             take_or_poll(author);
@@ -154,13 +158,13 @@ pub fn traffic(author: &mut Author) {
     }
 }
 
-/// A write-back that the device's rules forbid, at a place from the first slot to the sixth.
+/// A write-back that the device's rules mostly forbid, at any place of a packet or behind it.
 pub fn damaged_write_back(author: &mut Author) {
     if !author.sound(Direction::Receive) {
         return;
     }
     let record = author.bench.rx.record;
-    let place = author.random.below(6);
+    let place = author.random.below(MOST_SLOTS as u64 + 1);
     if record.posted <= place {
         post(author);
     }
@@ -199,7 +203,7 @@ pub fn stale(author: &mut Author) {
     let record = author.bench.rx.record;
     let posted = author.random.below(4).min(record.posted);
     author.rxset(record.with_posted(posted));
-    for distance in posted..posted + 5 {
+    for distance in posted..posted + DATA_SLOTS as u64 {
         let eop = author.random.one_in(2);
         let bytes = length(&mut author.random, record.limit);
         write_back(author, distance, bytes, eop);

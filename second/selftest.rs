@@ -1,5 +1,5 @@
 //! The program's own checks: the paper's examples, answer 8 against a count byte by byte, and those
-//! of the burst and of the counts.
+//! of the burst, of the counts and of packets of six slots.
 
 use crate::author::Random;
 use crate::interrupt;
@@ -8,7 +8,7 @@ use crate::receive::{self, FIELD_NAMES};
 use crate::record::{bits, Direction, Record};
 use crate::segments;
 use crate::transmit::{self, Lent, Send};
-use crate::{aims, answers, burst_selftest, compare, count_selftest, fixed};
+use crate::{aims, answers, burst_selftest, compare, count_selftest, fixed, sixth_selftest};
 use std::process::exit;
 
 pub struct Checks {
@@ -37,6 +37,7 @@ pub fn run() {
     read_back(&mut checks);
     burst_selftest::all(&mut checks);
     count_selftest::all(&mut checks);
+    sixth_selftest::all(&mut checks);
     script_lines(&mut checks);
     scripts(&mut checks);
     println!("selftest: {} checks, {} failed", checks.made, checks.failed);
@@ -105,7 +106,7 @@ fn receive_of_the_paper(checks: &mut Checks) {
     let (after, packet) = receive::take(record, &ring, &list).unwrap_or_default();
     checks.equal("count", packet.count, 2);
     checks.equal("total", packet.total, 2148);
-    checks.equal("addresses", packet.addresses, [4096, 8192, 0, 0, 0]);
+    checks.equal("addresses", packet.addresses, [4096, 8192, 0, 0, 0, 0]);
     checks.equal("head", after.head, 2);
     let again = receive::post(after, &mut ring, &mut list, 4096).unwrap_or_default();
     checks.equal("tail once more", again.tail_value(Direction::Receive), Ok(0));
