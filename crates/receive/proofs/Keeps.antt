@@ -2,12 +2,11 @@
 -- Assumes nothing.
 use Prim.Native.Nat.{ℕ, _≤_}
 use mathlib.Core.Path.{_≡_, refl}
-use mathlib.Core.Bool.{Bool, true, false, cond}
+use mathlib.Core.Bool.{true}
 use mathlib.Core.List.{List}
-use borrow.Author.Tests.{eqb-true}
-use lib.Dec.{eqb}
 use lib.ListN.{length}
 use Rattle.rules.proofs.Tests.{both}
+use Rattle.rules.proofs.Checks.{by-answer}
 use Rattle.ring.specs.Queue.{sharedOk}
 use Rattle.ring.specs.Steps.{Grow}
 use Rattle.ring.proofs.Record.{advanced-keeps, grown-keeps}
@@ -36,11 +35,10 @@ module _ (q : RxQueue) (ok : recordOk q ≡ true) where
   advanced-ok n p = rw (advanced-keeps (q .shared) (lines .0) n p, lines .1)
 
   pub post-keeps : (ring list : List ℕ) (address : ℕ) → recordOk (postOf q ring list address .queue) ≡ true
-  post-keeps ring list address = go (eqb (answerTo q ring list address) 0) refl
-    where
-      go : (b : Bool) → eqb (answerTo q ring list address) 0 ≡ b → recordOk (cond b (oneMore q) q) ≡ true
-      go true e = one-more-ok (done-grows q (length ring) (length list) address (eqb-true (answerTo q ring list address) 0 e))
-      go false e = ok
+  post-keeps ring list address =
+      by-answer (λ (r : RxQueue). recordOk r ≡ true) (answerTo q ring list address) (oneMore q) q
+      (λ z. one-more-ok (done-grows q (length ring) (length list) address z))
+      ok
 
   pub take-keeps : (ring list : List ℕ) → recordOk (takeOf q ring list .queue) ≡ true
   unfolding takeOf takeBy

@@ -62,6 +62,14 @@ pub one-check : {A : Type 0} (number : A → ℕ) (b : Bool) (x y : A) → numbe
 one-check number true x y p r = p
 one-check number false x y p r = r
 
+-- what holds of x, where a call answers 0, and of y holds of what it gives back: x if it is done, y if it is refused
+pub by-answer : {A : Type 0} (P : A → Type 0) (n : ℕ) (x y : A) → (n ≡ 0 → P x) → P y → P (cond (eqb n 0) x y)
+by-answer P n x y done refused = go (eqb n 0) refl
+  where
+    go : (b : Bool) → eqb n 0 ≡ b → P (cond b x y)
+    go true e = done (eqb-true n 0 e)
+    go false e = refused
+
 -- 0 is answered exactly where no cause holds
 pub passed : (cs : List Check) → T (refusing cs) → answerOf cs ≡ 0 → (i : ℕ) → nth cs i .cause ≡ false
 passed [] t e i = refl

@@ -1,8 +1,8 @@
 -- What an accepted record, accepted lent slices, an accepted send and an accepted reclaim are, as facts.
 -- Assumes nothing.
 use Prim.Native.Nat.{ℕ, _*_, _^_, _<_}
-use mathlib.Core.Path.{_≡_, refl}
-use mathlib.Core.Bool.{Bool, true, false, _&&_, cond}
+use mathlib.Core.Path.{_≡_}
+use mathlib.Core.Bool.{true, _&&_}
 use mathlib.Core.List.{List, [], _∷_}
 use native.Mathlib.Omega.{arith}
 use borrow.Author.Tests.{eqb-true, not-false}
@@ -10,7 +10,7 @@ use lib.Dec.{eqb}
 use lib.ListN.{length}
 use Rattle.rules.specs.Rules.{_when_, answerOf}
 use Rattle.rules.proofs.Tests.{both, within-is}
-use Rattle.rules.proofs.Checks.{passed, first-pass}
+use Rattle.rules.proofs.Checks.{by-answer, passed, first-pass}
 use Rattle.ring.specs.Sizes.{tailBits}
 use Rattle.ring.specs.Queue.{sharedOk, noRoom}
 use Rattle.ring.specs.Steps.{Grow}
@@ -86,14 +86,7 @@ module _ (q : TxQueue) (ring tokens counts addresses lengths : List ℕ) (reques
   -- what holds of a send that is done and of one that is refused holds of what it gives back
   pub by-send : (P : Sent → Type 0) → (answerTo q ring tokens counts addresses lengths request ≡ 0 → P (sendDone q (slotsTaken request lengths)))
       → P (sendRefused q (answerTo q ring tokens counts addresses lengths request)) → P (sendOf q ring tokens counts addresses lengths request)
-  by-send P done refused = go (eqb answer 0) refl
-    where
-      answer : ℕ
-      answer = answerTo q ring tokens counts addresses lengths request
-
-      go : (b : Bool) → eqb answer 0 ≡ b → P (cond b (sendDone q (slotsTaken request lengths)) (sendRefused q answer))
-      go true e = done (eqb-true answer 0 e)
-      go false e = refused
+  by-send P done refused = by-answer P (answerTo q ring tokens counts addresses lengths request) _ _ done refused
 
 -- ---- reclaim
 
@@ -112,11 +105,4 @@ module _ (q : TxQueue) (ring tokens counts : List ℕ) where
   pub by-reclaim : (P : Reclaimed → Type 0) → (reclaimAnswer q ring tokens counts ≡ 0 → P (reclaimDone q (tokenAt q tokens) (countAt (q .shared) counts)))
       → P (reclaimRefused q (reclaimAnswer q ring tokens counts)) → P (reclaimOf q ring tokens counts)
   unfolding reclaimOf
-  by-reclaim P done refused = go (eqb answer 0) refl
-    where
-      answer : ℕ
-      answer = reclaimAnswer q ring tokens counts
-
-      go : (b : Bool) → eqb answer 0 ≡ b → P (cond b (reclaimDone q (tokenAt q tokens) (countAt (q .shared) counts)) (reclaimRefused q answer))
-      go true e = done (eqb-true answer 0 e)
-      go false e = refused
+  by-reclaim P done refused = by-answer P (reclaimAnswer q ring tokens counts) _ _ done refused
