@@ -5,11 +5,12 @@ use mathlib.Core.Path.{_≡_}
 use mathlib.Core.List.{List, [], _∷_, _++_}
 use lib.ListN.{replicate}
 use lib.Seq.{sets}
+use Rattle.writeback.specs.WriteBack.{writeBackOf}
 use Rattle.receive.specs.declared.Taken.{Taken}
-use Rattle.receive.specs.Queue as rx
 use Rattle.receive.specs.Take.{takeOf, advanced}
 use Rattle.receive.specs.Burst.{burstOf}
-use Rattle.paper.specs.Paper.{State, posts, full}
+use Rattle.paper.specs.Paper.{full}
+use Rattle.paper.specs.Counts.{received}
 
 -- the words of slots with these words 1
 abbrev pub wordsFor : List ℕ → List ℕ
@@ -27,20 +28,23 @@ taking ws = takeOf (full .queue) (wrote ws) (full .list)
 abbrev pub fiveFull : List ℕ
 fiveFull = replicate 5 (2048 * 2 ^ 38 + 1)
 
--- a ring of 32 slots of which five are posted
-unfoldable pub fivePosted : State
-fivePosted = posts 5 (record { queue = rx.freshOf 0 32 2048 .queue; ring = replicate 64 0; list = replicate 32 0 })
-
 pub record Sixth : Type 0 where
   -- the branch's packet, on which the queue stuck: five full buffers and an empty sixth with EOP
-  pub branch : taking (fiveFull ++ 3 ∷ []) .queue ≡ advanced (full .queue) 6
-  pub branch-count : taking (fiveFull ++ 3 ∷ []) .packet .count ≡ 6
-  pub branch-total : taking (fiveFull ++ 3 ∷ []) .packet .total ≡ 10240
-  pub branch-addresses : taking (fiveFull ++ 3 ∷ []) .packet .addresses ≡ replicate 6 4096
-  pub branch-lengths : taking (fiveFull ++ 3 ∷ []) .packet .lengths ≡ (2048 ∷ 2048 ∷ 2048 ∷ 2048 ∷ 2048 ∷ 0 ∷ [])
+  pub branch : taking (fiveFull ++ 3 ∷ [])
+      ≡ record {
+        answer = 0;
+        queue = advanced (full .queue) 6;
+        packet = record {
+          count = 6;
+          total = 10240;
+          addresses = replicate 6 4096;
+          lengths = 2048 ∷ 2048 ∷ 2048 ∷ 2048 ∷ 2048 ∷ 0 ∷ [];
+          last = writeBackOf (record { word0 = 0; word1 = 3 });
+        };
+      }
   -- the fifth is looked past: a sixth that is not written yet is 4, and one that is not posted, whatever stands there
   pub not-written : taking fiveFull .answer ≡ 4
-  pub not-posted : takeOf (fivePosted .queue) (wrote (fiveFull ++ 3 ∷ [])) (full .list) .answer ≡ 4
+  pub not-posted : takeOf (received 5 5 0) (wrote (fiveFull ++ 3 ∷ [])) (full .list) .answer ≡ 4
   -- a sixth with data is 5, with EOP or without, and so is an empty one without EOP
   pub with-data : taking (fiveFull ++ (2 ^ 38 + 3) ∷ []) .answer ≡ 5
   pub with-more : taking (fiveFull ++ (2 ^ 38 + 1) ∷ []) .answer ≡ 5

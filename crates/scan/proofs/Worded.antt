@@ -10,7 +10,7 @@ use borrow.Author.Tests.{le-leb, lt-ltb}
 use lib.ListN.{length}
 use Rattle.rules.specs.Rules.{within}
 use Rattle.rules.proofs.Tests.{within-is}
-use Rattle.places.specs.Words.{Words, dd, eop, lengthOf}
+use Rattle.places.specs.Words.{dd, eop, lengthOf}
 use Rattle.scan.specs.Slots.{Slot}
 use Rattle.scan.specs.Scan.{dataSlots, writable, Complete, ends, goes}
 use Rattle.scan.specs.Packet.{Each, LastEnds, DataThenEmpty}
