@@ -8,12 +8,11 @@ use mathlib.Core.List.{List, [], _∷_, _++_}
 use native.Mathlib.Omega.{arith}
 use borrow.Author.Tests.{le-leb, lt-ltb}
 use lib.ListN.{length}
-use Rattle.rules.specs.Rules.{within}
 use Rattle.rules.proofs.Tests.{within-is}
-use Rattle.places.specs.Words.{dd, eop, lengthOf}
+use Rattle.places.specs.Words.{eop, lengthOf}
 use Rattle.scan.specs.Slots.{Slot}
 use Rattle.scan.specs.Scan.{dataSlots, writable, Complete, ends, goes}
-use Rattle.scan.specs.Packet.{Each, LastEnds, DataThenEmpty}
+use Rattle.scan.specs.Packet.{HasData, IsEmpty, IsWritten, Each, LastEnds, DataThenEmpty}
 use Rattle.scan.proofs.Rule.{of-empty, of-data, one-of, goes-on, parts, joined}
 
 ends-more : (s : Slot) (p : List Slot) → eop (s .words) ≡ false → LastEnds p → LastEnds (s ∷ p)
@@ -70,19 +69,18 @@ module _ (buffer : ℕ) where
         last-ends = ends-more s p e (r .last-ends);
       }
 
-  module _ (k : ℕ) (s : Slot) (d : dd (s .words) ≡ true) where
-    data-writable : within 1 buffer (lengthOf (s .words)) ≡ true → k < dataSlots → writable buffer k (s .words) ≡ true
+  module _ (k : ℕ) (s : Slot) (d : IsWritten s) where
+    data-writable : HasData buffer s → k < dataSlots → writable buffer k (s .words) ≡ true
     data-writable w h =
         let b = within-is 1 buffer (lengthOf (s .words)) w in
         joined buffer k (s .words) d (rw (of-data buffer k (s .words) (λ z. omega arith), le-leb (lengthOf (s .words)) buffer (b .1), lt-ltb k dataSlots h))
 
-    empty-writable : lengthOf (s .words) ≡ 0 → eop (s .words) ≡ true → 1 ≤ k → writable buffer k (s .words) ≡ true
+    empty-writable : IsEmpty s → eop (s .words) ≡ true → 1 ≤ k → writable buffer k (s .words) ≡ true
     empty-writable z e h = joined buffer k (s .words) d (rw (of-empty buffer k (s .words) z, e, le-leb 1 k h))
 
   -- and what is one in 02's words is one by the rule
   by-words : (k : ℕ) (full empty : List Slot) → 1 ≤ k + length full → k + length full ≤ dataSlots → length empty ≤ 1
-      → Each (λ (s : Slot). within 1 buffer (lengthOf (s .words)) ≡ true) full → Each (λ (s : Slot). lengthOf (s .words) ≡ 0) empty
-      → Each (λ (s : Slot). dd (s .words) ≡ true) (full ++ empty) → LastEnds (full ++ empty) → Complete buffer k (full ++ empty)
+      → Each (HasData buffer) full → Each IsEmpty empty → Each IsWritten (full ++ empty) → LastEnds (full ++ empty) → Complete buffer k (full ++ empty)
   by-words k [] [] one few most filled none done last = absurd last
   by-words k [] (s ∷ []) one few most filled none done last = ends (empty-writable k s (done .0) (none .0) last (omega arith)) last
   by-words k [] (s ∷ (t ∷ r)) one few most filled none done last = absurd (omega arith)

@@ -10,6 +10,16 @@ use Rattle.places.specs.Words.{dd, eop, lengthOf}
 use Rattle.scan.specs.Slots.{Slot}
 use Rattle.scan.specs.Scan.{dataSlots}
 
+-- a slot with data has 1 byte to the buffer size, an empty one none; and one that the device has written has DD
+abbrev pub HasData : ℕ → Slot → Type 0
+HasData buffer s = within 1 buffer (lengthOf (s .words)) ≡ true
+
+abbrev pub IsEmpty : Slot → Type 0
+IsEmpty s = lengthOf (s .words) ≡ 0
+
+abbrev pub IsWritten : Slot → Type 0
+IsWritten s = dd (s .words) ≡ true
+
 -- what holds of each slot
 abbrev pub Each : (Slot → Type 0) → List Slot → Type 0
 Each P [] = Unit {0}
@@ -29,7 +39,7 @@ pub record DataThenEmpty (buffer k : ℕ) (p : List Slot) : Type 0 where
   pub one-or-more : 1 ≤ k + length full
   pub up-to-five : k + length full ≤ dataSlots
   pub at-most-one : length empty ≤ 1
-  pub with-data : Each (λ (s : Slot). within 1 buffer (lengthOf (s .words)) ≡ true) full
-  pub without : Each (λ (s : Slot). lengthOf (s .words) ≡ 0) empty
-  pub written : Each (λ (s : Slot). dd (s .words) ≡ true) p
+  pub with-data : Each (HasData buffer) full
+  pub without : Each IsEmpty empty
+  pub written : Each IsWritten p
   pub last-ends : LastEnds p
