@@ -7,10 +7,10 @@ use mathlib.Core.List.{List}
 use native.Mathlib.Omega.{arith}
 use Rattle.ring.specs.declared.Queue.{Queue}
 use Rattle.ring.specs.Queue.{Shared, advanced}
-use Rattle.ring.specs.Memory.{numbersAt}
-use Rattle.ring.specs.Steps.{SlotIs}
-use Rattle.ring.proofs.Steps.{here-is, on-is}
-use Rattle.ring.proofs.Runs.{length-run}
+use Rattle.slots.specs.Memory.{numbersAt}
+use Rattle.slots.specs.Steps.{SlotIs}
+use Rattle.slots.proofs.Steps.{here-is, on-is}
+use Rattle.slots.proofs.Runs.{length-run}
 use Rattle.places.specs.Words.{Words, dd, eop, lengthOf}
 use Rattle.scan.specs.Slots.{wordsOf}
 use Rattle.scan.specs.Scan.{allowed, Look, refuse}

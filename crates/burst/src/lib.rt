@@ -60,7 +60,7 @@ fn packet(queue: Queue, buffer: usize, ring: &[u64]) -> Found
             return refused(queue, 4, k + 1);
         }
         if scan::slot_ok(buffer, k, word1) {
-            at = ring::next(at, queue.size);
+            at = slots::next(at, queue.size);
             total += places::length(word1);
             k += 1;
             if places::eop(word1) {

@@ -6,7 +6,7 @@ use mathlib.Core.List.{List, [], _∷_, _++_, map, append-nil}
 use borrow.Author.Tests.{eq-eqb, ne-eqb}
 use lib.Dec.{eqb}
 use lib.ListN.{length, drop, replicate}
-use Rattle.ring.proofs.Runs.{run-take}
+use Rattle.slots.proofs.Runs.{run-take}
 use Rattle.scan.specs.Slots.{slotIn, postedSlots}
 use Rattle.receive.specs.declared.RxQueue.{RxQueue}
 use Rattle.receive.specs.declared.Packet.{Packet}

@@ -1,7 +1,7 @@
 -- The history of specs/Examples, computed from the definitions. Assumes nothing.
 use mathlib.Core.Path.{refl}
 use native.Mathlib.Omega.{arith}
-use Rattle.ring.specs.Slots.{run}
+use Rattle.slots.specs.Slots.{run}
 use Rattle.receive.specs.Queue.{recordOk, lentOk, freshOf}
 use Rattle.scan.specs.Slots.{postedSlots}
 use Rattle.receive.specs.Post.{postAnswer}

@@ -3,7 +3,7 @@
 use Prim.Native.Nat.{ℕ, zero, suc}
 use mathlib.Core.List.{List, [], _∷_, _++_}
 use lib.ListN.{length, getD, drop, replicate}
-use Rattle.ring.specs.Slots.{run}
+use Rattle.slots.specs.Slots.{run}
 use Rattle.scan.specs.Slots.{slotIn}
 use Rattle.burst.specs.Out.{packetNumbers}
 use Rattle.receive.specs.declared.RxQueue.{RxQueue}

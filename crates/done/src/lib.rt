@@ -30,6 +30,6 @@ pub fn answer(queue: Queue, ring: &[u64], counts: &[u16]) -> u8
     if (count == 0) | (posted < count) {
         return 5;
     }
-    let last = ring::slot(head, queue.size, count - 1);
+    let last = slots::slot(head, queue.size, count - 1);
     if marked(ring[2 * last + 1]) { 0 } else { 4 }
 }

@@ -11,10 +11,10 @@ use lib.Bits.{bitOr}
 use lib.Pow.{shl-exact}
 use lib.ListN.{length, getD}
 use Rattle.field.specs.Field.{placed, wordOf}
-use Rattle.ring.specs.Slots.{slotAt}
-use Rattle.ring.specs.Memory.{store, storeRun}
-use Rattle.ring.proofs.Steps.{slot-here}
-use Rattle.ring.proofs.Rows.{row-none, row-more}
+use Rattle.slots.specs.Slots.{slotAt}
+use Rattle.slots.specs.Memory.{store, storeRun}
+use Rattle.slots.proofs.Steps.{slot-here}
+use Rattle.slots.proofs.Rows.{row-none, row-more}
 use Rattle.descriptor.specs.Words.{dataWord, lengthLine}
 use Rattle.request.specs.declared.Request.{Request}
 use Rattle.request.specs.Request.{slotsOf, dataOf}

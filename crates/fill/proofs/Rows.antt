@@ -5,9 +5,9 @@ use mathlib.Core.Path.{_≡_, refl, ap, _∙_}
 use mathlib.Core.List.{List}
 use native.Mathlib.Nat.{add-zero}
 use native.Mathlib.Omega.{arith}
-use Rattle.ring.specs.Slots.{slotAt}
-use Rattle.ring.specs.Memory.{store, storeRun}
-use Rattle.ring.proofs.Steps.{slot-on}
+use Rattle.slots.specs.Slots.{slotAt}
+use Rattle.slots.specs.Memory.{store, storeRun}
+use Rattle.slots.proofs.Steps.{slot-on}
 
 module _ (width size : ℕ) where
   pub row-agree : (f g : ℕ → List ℕ) (memory : List ℕ) (i n : ℕ) → ((k : ℕ) → k < n → f k ≡ g k) → storeRun width size f memory i n ≡ storeRun width size g memory i n

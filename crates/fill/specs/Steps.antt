@@ -7,9 +7,9 @@ use lib.Bits.{bitOr}
 use lib.ListN.{length, getD}
 use Rattle.field.specs.Field.{wordOf}
 use Rattle.descriptor.specs.Words.{lengthLine}
-use Rattle.ring.specs.Slots.{mostSlots}
-use Rattle.ring.specs.Memory.{storeRun}
-use Rattle.ring.specs.Steps.{SlotIs}
+use Rattle.slots.specs.Slots.{mostSlots}
+use Rattle.slots.specs.Memory.{storeRun}
+use Rattle.slots.specs.Steps.{SlotIs}
 
 -- a ring of a size, a slot of it to begin at, and so many slots, less than a lap, to take
 pub record Room (ring addresses lengths : List ℕ) (size start slots : ℕ) : Type 0 where

@@ -3,8 +3,8 @@ ghost use mathlib.Core.Path.{_≡_};
 ghost use mathlib.Core.List.{[], _∷_};
 ghost use Prim.Native.Nat.{_+_, _-_, _*_, _<_};
 ghost use lib.ListN.{length};
-ghost use Rattle.ring.specs.Memory.{store, storeRun};
-ghost use Rattle.ring.specs.Steps.{Step};
+ghost use Rattle.slots.specs.Memory.{store, storeRun};
+ghost use Rattle.slots.specs.Steps.{Step};
 ghost use Rattle.request.specs.Request.{slotsOf};
 ghost use Rattle.fill.specs.Descriptors.{pieceNumbers, contextNumbers, descriptor};
 ghost use Rattle.fill.specs.Steps.{Room, Filled, leadingNumbers};
@@ -39,7 +39,7 @@ fn put_leading(
     let mut i = 0;
     while i < last {
         put_slot(ring, at, addresses[i], alike | lengths[i] << LENGTH);
-        at = ring::next(at, size);
+        at = slots::next(at, size);
         i += 1;
     }
     at
@@ -73,7 +73,7 @@ fn put_context(ring: &mut [u64], size: usize, tail: usize, request: Request) -> 
     if request.segmented {
         let word = segmentation_word(request);
         put_slot(ring, tail, 0, word);
-        ring::next(tail, size)
+        slots::next(tail, size)
     } else {
         tail
     }

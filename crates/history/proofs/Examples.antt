@@ -5,7 +5,7 @@ use mathlib.Core.List.{List, [], _∷_}
 use lib.Dec.{T, eqb, T-not}
 use borrow.Author.Tests.{eq-eqb}
 use mir.Facts.{and-yes}
-use Rattle.ring.specs.Slots.{run}
+use Rattle.slots.specs.Slots.{run}
 use Rattle.ring.specs.Queue.{tailOf}
 use Rattle.receive.specs.Queue.{recordOk, lentOk, freshOf}
 use Rattle.scan.specs.Slots.{postedSlots}

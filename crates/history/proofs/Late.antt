@@ -10,10 +10,10 @@ use mathlib.Core.List.{List, [], _∷_, _++_, map, append-assoc, append-nil, map
 use lib.Dec.{eqb}
 use lib.ListN.{length, take, drop, length-append, take-append-drop}
 use lib.Seq.{take-append-seam, length-take-le}
-use Rattle.ring.specs.Slots.{slotAt}
+use Rattle.slots.specs.Slots.{slotAt}
 use Rattle.ring.specs.Queue.{tailOf}
-use Rattle.ring.proofs.Steps.{apart}
-use Rattle.ring.proofs.Stores.{length-store, store-comm}
+use Rattle.slots.proofs.Steps.{apart}
+use Rattle.slots.proofs.Stores.{length-store, store-comm}
 use Rattle.places.specs.Words.{Words}
 use Rattle.scan.specs.Slots.{Slot}
 use Rattle.receive.specs.Post.{postAnswer, blank, oneMore}

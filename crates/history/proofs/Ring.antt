@@ -7,9 +7,9 @@ use mathlib.Core.Path.{_≡_, refl, sym, ap, _∙_}
 use mathlib.Core.Logic.{_≢_}
 use mathlib.Core.List.{List, [], _∷_}
 use lib.ListN.{length, getD, set}
-use Rattle.ring.specs.Slots.{slotAt, run}
-use Rattle.ring.proofs.Stores.{read-same, read-other}
-use Rattle.ring.proofs.Runs.{getD-run, run-inside}
+use Rattle.slots.specs.Slots.{slotAt, run}
+use Rattle.slots.proofs.Stores.{read-same, read-other}
+use Rattle.slots.proofs.Runs.{getD-run, run-inside}
 use Rattle.places.specs.Words.{Words}
 use Rattle.scan.specs.Slots.{Slot, wordsOf, slotIn, storeWords}
 

@@ -12,11 +12,11 @@ use lib.Dec.{T}
 use lib.ListN.{length, set, drop, length-set, length-append, length-map}
 use lib.Seq.{drop-append-seam, set-at, getD-at}
 use Rattle.rules.specs.Address.{addressWrong}
-use Rattle.ring.specs.Slots.{slotAt, run}
+use Rattle.slots.specs.Slots.{slotAt, run}
 use Rattle.ring.specs.Queue.{Shared, tailOf, noRoom}
 use Rattle.ring.specs.Steps.{Grow}
-use Rattle.ring.proofs.Stores.{length-store}
-use Rattle.ring.proofs.Runs.{length-run, run-mod, run-drop}
+use Rattle.slots.proofs.Stores.{length-store}
+use Rattle.slots.proofs.Runs.{length-run, run-mod, run-drop}
 use Rattle.places.specs.Words.{Words}
 use Rattle.receive.specs.declared.RxQueue.{RxQueue}
 use Rattle.receive.specs.Queue.{recordOk, lentOk, emptyQueue}

@@ -6,7 +6,7 @@ use mathlib.Core.Bool.{true, cond}
 use mathlib.Core.List.{List, [], _∷_, _++_, map}
 use lib.Dec.{ltb}
 use lib.ListN.{length, take, replicate}
-use Rattle.ring.specs.Slots.{run}
+use Rattle.slots.specs.Slots.{run}
 use Rattle.ring.specs.Queue.{tailOf}
 use Rattle.places.specs.Words.{dd, eop}
 use Rattle.scan.specs.Scan.{dataSlots}

@@ -2,7 +2,7 @@
 -- Assumes nothing.
 use mathlib.Core.Path.{refl}
 use Rattle.rules.specs.Rules.{allBelow}
-use Rattle.ring.specs.Slots.{run}
+use Rattle.slots.specs.Slots.{run}
 use Rattle.receive.specs.Queue as rx
 use Rattle.scan.specs.Slots.{postedSlots}
 use Rattle.receive.specs.Post.{postAnswer}

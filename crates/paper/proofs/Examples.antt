@@ -4,7 +4,7 @@ use mathlib.Core.Path.{refl}
 use Rattle.rules.specs.Rules.{allBelow}
 use Rattle.family.specs.Types.{familyOf}
 use Rattle.writeback.specs.WriteBack.{writeBackOf}
-use Rattle.ring.specs.Slots.{run}
+use Rattle.slots.specs.Slots.{run}
 use Rattle.ring.specs.Queue.{askedOf}
 use Rattle.receive.specs.Queue as rx
 use Rattle.scan.specs.Slots.{postedSlots}

@@ -13,8 +13,8 @@ use lib.ListN.{length, set}
 use lib.Seq.{getD-set-same, getD-set-other}
 use Rattle.ring.specs.Queue.{tailOf}
 use Rattle.ring.proofs.Record.{tail-below}
-use Rattle.ring.proofs.Stores.{read-same, read-other}
-use Rattle.ring.proofs.Runs.{run-snoc, run-outside}
+use Rattle.slots.proofs.Stores.{read-same, read-other}
+use Rattle.slots.proofs.Runs.{run-snoc, run-outside}
 use Rattle.scan.specs.Slots.{Slot, wordsOf, slotIn, storeWords, postedSlots}
 use Rattle.receive.specs.declared.RxQueue.{RxQueue}
 use Rattle.receive.specs.Post.{blank, answerTo, postOf, ringAfter, listAfter, Unchanged}

@@ -1,6 +1,2 @@
-pub mod Steps
-pub mod Stores
-pub mod Runs
-pub mod Rows
 pub mod Record
 pub mod Counts

@@ -12,10 +12,10 @@ use Rattle.rules.proofs.Tests.{both, steps-is}
 use Rattle.rules.proofs.Checks.{one-check}
 use Rattle.ring.specs.declared.Queue.{Queue}
 use Rattle.ring.specs.declared.Asked.{Asked}
-use Rattle.ring.specs.Slots.{distance}
+use Rattle.slots.specs.Slots.{distance}
 use Rattle.ring.specs.Sizes.{mostQueue, leastSize, mostSize, sizeStep, queueOk, placeOk, countsOk, tailBits}
 use Rattle.ring.specs.Queue.{everPosted, everReturned, sharedOk, Shared, slotOf, tailOf, isDevices, emptyQueue, advanced, grown, askedOf}
-use Rattle.ring.proofs.Steps.{slot-below, distance-slot, slot-distance}
+use Rattle.slots.proofs.Steps.{slot-below, distance-slot, slot-distance}
 
 -- ---- what the test says, and what keeps it
 

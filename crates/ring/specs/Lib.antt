@@ -1,5 +1,3 @@
-pub mod Slots
-pub mod Memory
 pub mod Sizes
 pub mod Queue
 pub mod Counts

@@ -7,7 +7,7 @@ use mathlib.Core.Bool.{Bool, _&&_, _||_, cond}
 use lib.Dec.{ltb}
 use Rattle.ring.specs.declared.Queue.{Queue}
 use Rattle.ring.specs.declared.Asked.{Asked}
-use Rattle.ring.specs.Slots.{slotAt, distance}
+use Rattle.slots.specs.Slots.{slotAt, distance}
 use Rattle.ring.specs.Sizes.{mostQueue, leastSize, mostSize, mostCount, queueOk, placeOk, countsOk}
 
 -- slots ever posted and slots ever handed back, since the queue was fresh

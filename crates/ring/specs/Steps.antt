@@ -1,24 +1,11 @@
--- What the functions of this crate ask of a caller, and what they say of a slot number. No public contract cites these.
+-- What the functions of this crate ask of a caller. No public contract cites these.
 -- Assumes nothing.
 use Prim.Native.Nat.{ℕ, _+_, _*_, _≤_, _<_}
 use mathlib.Core.Path.{_≡_}
 use mathlib.Core.Bool.{Bool, true}
 use Rattle.ring.specs.declared.Queue.{Queue}
 use Rattle.ring.specs.Sizes.{mostCount}
-use Rattle.ring.specs.Slots.{slotAt, mostSlots}
 use Rattle.ring.specs.Queue.{everPosted, Shared}
-
--- what the step asks: head is a slot, and the distance is less than a lap
-pub record Step (head size k : ℕ) : Type 0 where
-  pub head-below : head < size
-  pub near : k < size
-  pub size-high : size ≤ mostSlots
-
--- what it says of its result
-pub record SlotIs (head size k r : ℕ) : Type 0 where
-  pub is : r ≡ slotAt head size k
-  pub below : r < size
-  pub small : size ≤ mostSlots
 
 -- what reading a ring's slots asks: a record that keeps the shared lines, and a ring of two numbers a slot
 pub record Reads (q : Queue) (ringLength : ℕ) : Type 0 where

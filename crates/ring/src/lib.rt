@@ -1,9 +1,10 @@
-// What every ring shares: the step from head to the slot at a distance, and the part of the queue record that the receive and the
-// transmit queue have in common.
+// The part of the queue record that the receive and the transmit queue have in common.
 ghost use mathlib.Core.Path.{_≡_};
 ghost use Rattle.ring.specs.Sizes.{countsOk};
 ghost use Rattle.ring.specs.Queue.{Shared, everPosted, everReturned, sharedOk, slotOf, tailOf, registerAt, noRoom, emptyQueue, advanced, grown, askedOf};
-ghost use Rattle.ring.specs.Steps.{SlotIs, Step, Advance, Grow, Judged};
+ghost use Rattle.ring.specs.Steps.{Advance, Grow, Judged};
+ghost use Rattle.slots.specs.Steps.{SlotIs};
+use slots::slot;
 
 const QUEUE_MOST: usize = 3;
 
@@ -18,24 +19,6 @@ const COUNT_MOST: u64 = 0xffffffffffffffff;
 
 // A queue's tail register stands so many bytes after the one before.
 const REGISTER_STEP: usize = 4;
-
-// The slot at distance k from head, which is less than a lap.
-pub fn slot(head: usize, size: usize, k: usize) -> usize
-    requires { ⌜ Step head size k ⌝ }
-    ensures { λ r. ⌜ SlotIs head size k r ⌝ }
-{
-    let at = head + k;
-    if at < size { at } else { at - size }
-}
-
-// The slot after another, for what goes from slot to slot: 0 where the sum reaches the size, and nothing is taken away.
-pub fn next(at: usize, size: usize) -> usize
-    requires { ⌜ Step at size 1 ⌝ }
-    ensures { λ r. ⌜ SlotIs at size 1 r ⌝ }
-{
-    let next = at + 1;
-    if next < size { next } else { 0 }
-}
 
 // The part of a queue record that both queues have. The two counts are of slots since the queue was fresh.
 pub struct Queue {

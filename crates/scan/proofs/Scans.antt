@@ -11,9 +11,9 @@ use lib.ListN.{length, getD, take, length-map, List·getD-eq-default, length-app
 use Rattle.rules.specs.Rules.{answerOf}
 use Rattle.rules.proofs.Tests.{both}
 use Rattle.ring.specs.declared.Queue.{Queue}
-use Rattle.ring.specs.Slots.{run}
+use Rattle.slots.specs.Slots.{run}
 use Rattle.ring.specs.Queue.{slotOf}
-use Rattle.ring.proofs.Runs.{length-run, getD-run, run-take}
+use Rattle.slots.proofs.Runs.{length-run, getD-run, run-take}
 use Rattle.places.specs.Words.{dd, eop}
 use Rattle.scan.specs.Slots.{Slot, slotIn, postedSlots}
 use Rattle.scan.specs.Scan.{packetSlots, allowed, writable, Complete, ends, goes, goesOn, examined, Look, refuse, whole, andThen, scan, slotChecks}

@@ -9,9 +9,9 @@ use native.Mathlib.Numerals.{add-one}
 use native.Mathlib.Omega.{arith}
 use lib.ListN.{length, set, length-map}
 use Rattle.ring.specs.declared.Queue.{Queue}
-use Rattle.ring.specs.Slots.{run}
+use Rattle.slots.specs.Slots.{run}
 use Rattle.ring.specs.Queue.{slotOf, advanced}
-use Rattle.ring.proofs.Runs.{length-run, run-snoc}
+use Rattle.slots.proofs.Runs.{length-run, run-snoc}
 use Rattle.places.specs.Places.{lengthPlace}
 use Rattle.places.specs.Words.{Words, dd, eop, lengthOf}
 use Rattle.scan.specs.Slots.{Slot, slotIn, postedSlots}

@@ -3,8 +3,8 @@
 use Prim.Native.Nat.{ℕ}
 use mathlib.Core.List.{List, [], _∷_}
 use lib.ListN.{getD}
-use Rattle.ring.specs.Slots.{run}
-use Rattle.ring.specs.Memory.{store, numbersAt}
+use Rattle.slots.specs.Slots.{run}
+use Rattle.slots.specs.Memory.{store, numbersAt}
 use Rattle.places.specs.Words.{Words}
 use Rattle.ring.specs.declared.Queue.{Queue}
 

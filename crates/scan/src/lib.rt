@@ -68,7 +68,7 @@ pub fn posted(queue: Queue, buffer: usize, ring: &[u64], list: &[u64]) -> Seen
     let mut total: usize = 0;
     let mut k: usize = 0;
     while k < posted {
-        let at = ring::slot(head, size, k);
+        let at = slots::slot(head, size, k);
         let first = 2 * at;
         let word1 = ring[first + 1];
         if !places::dd(word1) {

@@ -12,12 +12,12 @@ use lib.Dec.{eqb}
 use lib.ListN.{length, set, length-set}
 use lib.Seq.{getD-set-other}
 use Rattle.ring.specs.declared.Queue.{Queue}
-use Rattle.ring.specs.Slots.{slotAt}
+use Rattle.slots.specs.Slots.{slotAt}
 use Rattle.ring.specs.Queue.{sharedOk, slotOf, tailOf, advanced, grown}
-use Rattle.ring.specs.Memory.{storeRun}
-use Rattle.ring.proofs.Steps.{apart, slot-on}
+use Rattle.slots.specs.Memory.{storeRun}
+use Rattle.slots.proofs.Steps.{apart, slot-on}
 use Rattle.ring.proofs.Record.{advanced-keeps, grown-keeps}
-use Rattle.ring.proofs.Rows.{row-length, row-other}
+use Rattle.slots.proofs.Rows.{row-length, row-other}
 use Rattle.request.specs.declared.Request.{Request}
 use Rattle.request.proofs.Slots.{slots-are}
 use Rattle.fill.specs.Descriptors.{descriptor}

@@ -9,11 +9,11 @@ use native.Mathlib.Omega.{arith}
 use borrow.Author.Tests.{eq-eqb}
 use lib.Dec.{eqb}
 use lib.ListN.{length, getD}
-use Rattle.ring.specs.Slots.{slotAt}
+use Rattle.slots.specs.Slots.{slotAt}
 use Rattle.ring.specs.Queue.{tailOf}
-use Rattle.ring.specs.Memory.{numbersAt, storeRun}
-use Rattle.ring.proofs.Steps.{slot-here}
-use Rattle.ring.proofs.Rows.{row-reads}
+use Rattle.slots.specs.Memory.{numbersAt, storeRun}
+use Rattle.slots.proofs.Steps.{slot-here}
+use Rattle.slots.proofs.Rows.{row-reads}
 use Rattle.ring.proofs.Record.{tail-below}
 use Rattle.descriptor.specs.declared.Data.{Data}
 use Rattle.field.specs.Field.{readAt}

@@ -6,7 +6,7 @@ use mathlib.Core.Bool.{Bool, true}
 use mathlib.Core.List.{List}
 use lib.Dec.{eqb}
 use lib.ListN.{length, getD}
-use Rattle.ring.specs.Slots.{slotAt}
+use Rattle.slots.specs.Slots.{slotAt}
 use Rattle.field.specs.Field.{readAt}
 use Rattle.descriptor.specs.Words.{typeLine, readData, readContext}
 use Rattle.request.specs.declared.Request.{Request}

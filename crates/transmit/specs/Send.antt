@@ -7,7 +7,7 @@ use mathlib.Core.List.{List, [], _∷_, _++_}
 use lib.Dec.{eqb}
 use lib.ListN.{length, getD, set}
 use Rattle.rules.specs.Rules.{Check, _when_, answerOf}
-use Rattle.ring.specs.Memory.{numbersAt, storeRun}
+use Rattle.slots.specs.Memory.{numbersAt, storeRun}
 use Rattle.ring.specs.Queue.{slotOf, tailOf, noRoom, grown}
 use Rattle.request.specs.declared.Request.{Request}
 use Rattle.request.specs.Request.{slotsOf}

@@ -6,7 +6,7 @@ use mathlib.Core.List.{[]}
 use native.Mathlib.Omega.{arith}
 use borrow.Author.Tests.{not-true, not-false}
 use borrow.Author.Needs.{needs}
-use Rattle.ring.proofs.Steps.{on-is}
+use Rattle.slots.proofs.Steps.{on-is}
 use Rattle.burst.proofs.Walk.{Walking, begins, end-found, clear-found, wrong-found, whole-found, goes-on}
 use Rattle.burst.proofs.packet.Statement.{statement}
 use Rattle.burst.proofs.packet.Tie as tie

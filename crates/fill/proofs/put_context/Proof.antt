@@ -5,7 +5,7 @@ use mathlib.Core.Path.{ap}
 use mathlib.Core.List.{[], _∷_}
 use native.Mathlib.Omega.{arith}
 use borrow.Author.Needs.{needs}
-use Rattle.ring.proofs.Steps.{here-is}
+use Rattle.slots.proofs.Steps.{here-is}
 use Rattle.fill.proofs.Pieces.{put-context, put-none}
 use Rattle.fill.proofs.put_context.Statement.{statement}
 use Rattle.fill.proofs.put_context.Tie as tie

@@ -4,8 +4,8 @@ use Prim.Native.Nat.{_-_, _≤_}
 use mathlib.Core.Path.{_≡_, sym, ap, _∙_}
 use native.Mathlib.Omega.{arith}
 use lib.ListN.{length}
-use Rattle.ring.proofs.Steps.{here-is, on-is}
-use Rattle.ring.proofs.Rows.{row-none, row-length}
+use Rattle.slots.proofs.Steps.{here-is, on-is}
+use Rattle.slots.proofs.Rows.{row-none, row-length}
 use Rattle.fill.specs.Steps.{Filled, leadingNumbers}
 use Rattle.fill.proofs.Pieces.{put-next}
 use Rattle.fill.proofs.put_leading.Statement.{statement}

@@ -9,7 +9,7 @@ use native.Mathlib.Decide.{decLt}
 use native.Mathlib.Omega.{arith}
 use lib.ListN.{length, getD, set, length-set}
 use lib.Seq.{getD-set-same, getD-set-other, set-comm, ext-getD}
-use Rattle.ring.specs.Memory.{storeFrom, readFrom, store, numbersAt}
+use Rattle.slots.specs.Memory.{storeFrom, readFrom, store, numbersAt}
 
 -- ---- numbers one after another
 

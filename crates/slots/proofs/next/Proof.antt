@@ -1,12 +1,12 @@
--- `ring::next` meets its contract: a sum that reaches the size is the size, and less a lap it is 0.
+-- `slots::next` meets its contract: a sum that reaches the size is the size, and less a lap it is 0.
 -- Assumes nothing.
 use Prim.Native.Nat.{_+_, _-_}
 use mathlib.Core.Path.{_≡_}
 use borrow.Author.Needs.{needs}
 use native.Mathlib.Omega.{arith}
-use Rattle.ring.proofs.Steps.{sum-is, lap-is}
-use Rattle.ring.proofs.next.Statement.{statement}
-use Rattle.ring.proofs.next.Tie as tie
+use Rattle.slots.proofs.Steps.{sum-is, lap-is}
+use Rattle.slots.proofs.next.Statement.{statement}
+use Rattle.slots.proofs.next.Tie as tie
 
 add-next : tie.Need-add-next
 add-next c = search needs

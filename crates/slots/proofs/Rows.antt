@@ -8,10 +8,10 @@ use native.Mathlib.Nat.{mod-lt, eq-or-lt-of-le}
 use native.Mathlib.Numerals.{add-one}
 use native.Mathlib.Omega.{arith}
 use lib.ListN.{length}
-use Rattle.ring.specs.Slots.{slotAt}
-use Rattle.ring.specs.Memory.{store, numbersAt, storeRun}
-use Rattle.ring.proofs.Steps.{apart}
-use Rattle.ring.proofs.Stores.{length-store, read-same, read-other}
+use Rattle.slots.specs.Slots.{slotAt}
+use Rattle.slots.specs.Memory.{store, numbersAt, storeRun}
+use Rattle.slots.proofs.Steps.{apart}
+use Rattle.slots.proofs.Stores.{length-store, read-same, read-other}
 
 module _ (width size : ℕ) (numbers : ℕ → List ℕ) (memory : List ℕ) (i : ℕ) where
   -- one slot more, as a loop goes on

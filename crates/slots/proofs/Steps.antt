@@ -6,8 +6,8 @@ use mathlib.Core.Logic.{_≢_, _⊎_, inl, inr, ⊎-elim}
 use native.Mathlib.Nat.{add-zero, mod-lt, mod-add-mod, mod-eq-of-lt, mod-eq-sub-mod}
 use native.Mathlib.Decide.{decLt}
 use native.Mathlib.Omega.{arith}
-use Rattle.ring.specs.Slots.{slotAt, distance, mostSlots}
-use Rattle.ring.specs.Steps.{Step, SlotIs}
+use Rattle.slots.specs.Slots.{slotAt, distance, mostSlots}
+use Rattle.slots.specs.Steps.{Step, SlotIs}
 
 pub slot-below : (head size k : ℕ) → 0 < size → slotAt head size k < size
 slot-below head size k h = mod-lt (head + k) h

@@ -1,9 +1,9 @@
--- `ring::slot` meets its contract: the sum fits, and it is the slot at that distance, or that slot and a lap.
+-- `slots::slot` meets its contract: the sum fits, and it is the slot at that distance, or that slot and a lap.
 -- Assumes nothing.
 use borrow.Author.Needs.{needs}
-use Rattle.ring.proofs.Steps.{sum-is, lap-is}
-use Rattle.ring.proofs.slot.Statement.{statement}
-use Rattle.ring.proofs.slot.Tie as tie
+use Rattle.slots.proofs.Steps.{sum-is, lap-is}
+use Rattle.slots.proofs.slot.Statement.{statement}
+use Rattle.slots.proofs.slot.Tie as tie
 
 add-at : tie.Need-add-at
 add-at c = search needs

@@ -9,8 +9,8 @@ use native.Mathlib.Decide.{ℕ-discrete}
 use native.Mathlib.Omega.{arith}
 use lib.ListN.{length, getD, set, take, drop, length-set}
 use lib.Seq.{getD-set-same, getD-set-other, ext-getD}
-use Rattle.ring.specs.Slots.{slotAt, run}
-use Rattle.ring.proofs.Steps.{apart}
+use Rattle.slots.specs.Slots.{slotAt, run}
+use Rattle.slots.proofs.Steps.{apart}
 
 module _ {A : Type 0} (at : ℕ → A) (size : ℕ) where
   pub length-run : (i n : ℕ) → length (run at size i n) ≡ n

@@ -3,7 +3,7 @@
 use Prim.Native.Nat.{ℕ, zero, suc, _+_, _*_}
 use mathlib.Core.List.{List, [], _∷_}
 use lib.ListN.{getD, set}
-use Rattle.ring.specs.Slots.{slotAt}
+use Rattle.slots.specs.Slots.{slotAt}
 
 -- numbers stored one after another, from place i on
 abbrev pub storeFrom : List ℕ → ℕ → List ℕ → List ℕ
