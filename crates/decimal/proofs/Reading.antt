@@ -6,7 +6,7 @@ use mathlib.Core.List.{List, [], _∷_, foldl}
 use native.Mathlib.Omega.{arith}
 use borrow.Author.Tests.{lt-ltb, le-ltb, ltb-true, ltb-false}
 use lib.Dec.{ltb}
-use Rattle.decimal.specs.Digits.{isDigit, allDigits, oneMore, numberIs, noNumber, nextRead}
+use Rattle.decimal.specs.Numbers.{isDigit, allDigits, oneMore, numberIs, noNumber, nextRead}
 use Rattle.decimal.specs.declared.Number.{Number}
 
 -- after a byte that ends the number, nothing makes it one again

@@ -7,7 +7,7 @@ use mathlib.Core.Path.{_≡_}
 use lib.Dec.{ltb}
 use lib.ListN.{length, take}
 use lib.Seq.{slice, sets}
-use Rattle.decimal.specs.Put.{fitsAt}
+use Rattle.digits.specs.Put.{fitsAt}
 use Rattle.words.specs.Parts.{endOf}
 use Rattle.feed.specs.declared.Lines.{Lines}
 use Rattle.feed.specs.declared.Line.{Line}

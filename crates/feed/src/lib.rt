@@ -121,7 +121,7 @@ pub fn make_room(lines: Lines, text: &mut [u8]) -> Lines
 pub fn more(lines: Lines, got: usize, long: usize) -> Lines
     ensures { λ r. ⌜ r ≡ moreOf lines got long ⌝ }
 {
-    if decimal::has_room(long, lines.end, got) {
+    if digits::has_room(long, lines.end, got) {
         Lines {
             start: lines.start,
             end: lines.end + got,

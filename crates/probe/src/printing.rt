@@ -11,7 +11,7 @@ pub(crate) fn write_out(out: &[u8], next: usize) {
 
 // Writes out what is printed if there is no room for another answer.
 pub(crate) fn with_room(out: &[u8; PRINTED], next: usize) -> usize {
-    if decimal::has_room(PRINTED, next, ROOM) {
+    if digits::has_room(PRINTED, next, ROOM) {
         next
     } else {
         write_out(out, next);

@@ -9,8 +9,8 @@ use native.Mathlib.Numerals.{add-one}
 use borrow.Author.Tests.{le-leb, lt-leb}
 use lib.ListN.{length, getD, set, drop, length-append, length-set, drop-of-length-le}
 use lib.Seq.{sets, drop-cons, length-sets}
-use Rattle.decimal.specs.Digits.{digitsOf}
-use Rattle.decimal.specs.Put.{Put, fitsAt}
+use Rattle.digits.specs.Digits.{digitsOf}
+use Rattle.digits.specs.Put.{Put, fitsAt}
 use Rattle.row.specs.Rows.{fieldsOf, rowOf, Whole}
 
 -- one list behind another

@@ -5,7 +5,7 @@ use mathlib.Core.List.{List, [], _∷_, _++_}
 use mathlib.Core.Path.{_≡_}
 use lib.ListN.{length}
 use lib.Seq.{sets}
-use Rattle.decimal.specs.Digits.{digitsOf}
+use Rattle.digits.specs.Digits.{digitsOf}
 
 -- the numbers and the end of the line
 unfoldable pub fieldsOf : List ℕ → List ℕ

@@ -3,7 +3,7 @@ ghost use mathlib.Core.Path.{_≡_};
 ghost use Prim.Native.Nat.{_+_, _-_, _≤_};
 ghost use lib.ListN.{length, take};
 ghost use lib.Seq.{sets};
-ghost use Rattle.decimal.specs.Put.{Put};
+ghost use Rattle.digits.specs.Put.{Put};
 ghost use Rattle.row.specs.Rows.{fieldsOf, rowOf, Whole};
 
 const SPACE: u8 = b' ';
@@ -26,7 +26,7 @@ fn copy(out: &mut [u8], at: usize, word: &[u8])
 fn put_word(out: &mut [u8], at: usize, word: &[u8]) -> usize
     ensures { λ r. ⌜ Put (now (out .entry)) at (now (word .entry)) r (now (out .exit)) ⌝ }
 {
-    if decimal::has_room(out.len(), at, word.len()) {
+    if digits::has_room(out.len(), at, word.len()) {
         copy(out, at, word);
         at + word.len()
     } else {
@@ -48,7 +48,7 @@ fn room_behind(room: usize, numbers: &[u64]) -> usize
     let mut left = room;
     let mut i = 0;
     while i < numbers.len() {
-        left = less(left, 1 + decimal::digit_count(numbers[i]));
+        left = less(left, 1 + digits::digit_count(numbers[i]));
         i += 1;
     }
     less(left, 1)
@@ -63,7 +63,7 @@ fn write_fields(out: &mut [u8], at: usize, numbers: &[u64]) -> usize
     let mut i = 0;
     while i < numbers.len() {
         out[place] = SPACE;
-        place = decimal::put_number(out, place + 1, numbers[i]);
+        place = digits::put_number(out, place + 1, numbers[i]);
         i += 1;
     }
     out[place] = LINE_END;

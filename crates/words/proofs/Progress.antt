@@ -9,7 +9,7 @@ use borrow.Author.Tests.{le-ltb}
 use lib.Dec.{leb}
 use lib.ListN.{length, set, take, drop, length-set}
 use lib.Seq.{sets}
-use Rattle.decimal.specs.Digits.{numberOf}
+use Rattle.decimal.specs.Numbers.{numberOf}
 use Rattle.decimal.specs.declared.Number.{Number}
 use Rattle.words.specs.Parts.{endOf, wordsBehind, allNumbers, valueIn, ReadNumbers}
 use Rattle.words.proofs.Splits.{behind-next, end-behind}

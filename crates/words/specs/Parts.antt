@@ -7,7 +7,7 @@ use mathlib.Core.Path.{_≡_}
 use lib.Dec.{leb, ltb, eqb}
 use lib.ListN.{length, getD, drop}
 use lib.Seq.{sets}
-use Rattle.decimal.specs.Digits.{numberOf}
+use Rattle.decimal.specs.Numbers.{numberOf}
 use Rattle.words.specs.declared.Numbers.{Numbers}
 
 -- what stands before the first mark

@@ -4,7 +4,7 @@ use Prim.Native.Nat.{_^_}
 use native.Mathlib.Omega.{arith}
 use borrow.Author.Tests.{leb-true, lt-ltb, le-ltb}
 use borrow.Author.Needs.{needs}
-use Rattle.decimal.specs.Digits.{isDigit, nextRead, oneMore}
+use Rattle.decimal.specs.Numbers.{isDigit, nextRead, oneMore}
 use Rattle.decimal.proofs.Folds.{and-left, and-right}
 use Rattle.decimal.proofs.next_read.Statement.{statement}
 use Rattle.decimal.proofs.next_read.Tie as tie

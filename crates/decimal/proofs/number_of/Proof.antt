@@ -1,7 +1,7 @@
 -- `decimal::number_of` meets its contract. Assumes nothing.
 use lib.Dec.{lit<}
 use borrow.Author.Needs.{needs}
-use Rattle.decimal.specs.Digits.{numberOf}
+use Rattle.decimal.specs.Numbers.{numberOf}
 use Rattle.decimal.proofs.Reading.{read-is}
 use Rattle.decimal.proofs.number_of.Statement.{statement}
 use Rattle.decimal.proofs.number_of.Tie as tie

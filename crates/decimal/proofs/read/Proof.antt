@@ -4,7 +4,7 @@ use mathlib.Core.Path.{_≡_, refl, sym, _∙_}
 use mathlib.Core.List.{foldl}
 use native.Mathlib.Omega.{arith}
 use lib.ListN.{length, drop}
-use Rattle.decimal.specs.Digits.{nextRead, numberIs}
+use Rattle.decimal.specs.Numbers.{nextRead, numberIs}
 use Rattle.decimal.proofs.Folds.{fold-next, fold-end}
 use Rattle.decimal.proofs.read.Statement.{statement}
 use Rattle.decimal.proofs.read.Tie as tie

@@ -5,7 +5,7 @@ use native.Mathlib.Omega.{arith}
 use borrow.Author.Needs.{needs}
 use lib.ListN.{length, getD, drop}
 use Rattle.row.specs.Rows.{fieldsOf}
-use Rattle.decimal.proofs.Written.{digits-short}
+use Rattle.digits.proofs.Written.{digits-short}
 use Rattle.row.proofs.Printing.{fields-longer, fields-end}
 use Rattle.row.proofs.room_behind.Statement.{statement}
 use Rattle.row.proofs.room_behind.Tie as tie

@@ -1,7 +1,8 @@
 -- Numbers at the ends of the rule. Assumes nothing.
 use mathlib.Core.Path.{_≡_, refl}
 use mathlib.Core.List.{[], _∷_}
-use Rattle.decimal.specs.Digits.{numberIs, noNumber, numberOf, digitsIn, digitsOf}
+use Rattle.decimal.specs.Numbers.{numberIs, noNumber, numberOf}
+use Rattle.digits.specs.Digits.{digitsIn, digitsOf}
 
 -- leading zeros are allowed, twenty digits at most, and 2^64 - 1 is the largest number
 pub six : numberOf (48 ∷ 48 ∷ 54 ∷ []) ≡ numberIs 6

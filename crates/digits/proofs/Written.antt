@@ -9,8 +9,8 @@ use borrow.Author.Tests.{lt-ltb, le-ltb, ltb-true, ltb-false}
 use lib.Dec.{ltb}
 use lib.ListN.{length, set, length-append}
 use lib.Seq.{sets}
-use Rattle.decimal.proofs.Folds.{sets-last}
-use Rattle.decimal.specs.Digits.{digitsIn, digitsOf}
+use Rattle.digits.proofs.Places.{sets-last}
+use Rattle.digits.specs.Digits.{digitsIn, digitsOf}
 
 -- a digit, and those before it
 module _ (k n : ℕ) where

@@ -1,11 +1,10 @@
--- Numbers as text: the number that a word of decimal digits writes, and the digits that a number is written with.
+-- Numbers as text: the number that a word of decimal digits writes.
 -- Assumes nothing.
-use Prim.Native.Nat.{ℕ, zero, suc, _+_, _-_, _*_, _/_, _%_, _^_, _≤_, _<_}
+use Prim.Native.Nat.{ℕ, _+_, _-_, _*_, _^_}
 use mathlib.Core.Bool.{Bool, true, false, _&&_, cond}
-use mathlib.Core.List.{List, [], _∷_, _++_, foldl}
-use mathlib.Core.Path.{_≡_}
+use mathlib.Core.List.{List, [], _∷_, foldl}
 use lib.Dec.{leb, ltb}
-use lib.ListN.{length, getD}
+use lib.ListN.{length}
 use Rattle.decimal.specs.declared.Number.{Number}
 
 -- a decimal digit, '0' to '9'
@@ -42,28 +41,6 @@ isNumber w = leb 1 (length w) && leb (length w) 20 && fitting w
 unfoldable pub numberOf : List ℕ → Number
 numberOf w = cond (isNumber w) (numberIs (valueOf w)) noNumber
 
--- the digits of n without leading zeros, the last k at most
-unfoldable pub digitsIn : ℕ → ℕ → List ℕ
-digitsIn zero n = []
-digitsIn (suc k) n = cond (ltb n 10) ((48 + n) ∷ []) (digitsIn k (n / 10) ++ ((48 + n % 10) ∷ []))
-
--- the digits of a number of at most twenty
-unfoldable pub digitsOf : ℕ → List ℕ
-digitsOf n = digitsIn 20 n
-
 -- one step of the reader: what is read so far, with one byte more
 unfoldable pub nextRead : Number → ℕ → Number
 nextRead n b = cond (n .ok && isDigit b) (cond (ltb (oneMore (n .value) b) (2 ^ 64)) (numberIs (oneMore (n .value) b)) noNumber) noNumber
-
--- the digits of n, k of them, fit a text from this place on
-pub record Spelled (out : List ℕ) (at k n : ℕ) : Type 0 where
-  pub count-is : k ≡ length (digitsOf n)
-  pub inside : at + k ≤ length out
-
--- what is promised of the digits of a number
-pub record WellWritten (n : ℕ) : Type 0 where
-  pub value-back : valueOf (digitsOf n) ≡ n
-  pub read-back : numberOf (digitsOf n) ≡ numberIs n
-  pub some : 1 ≤ length (digitsOf n)
-  pub few : length (digitsOf n) ≤ 20
-  pub no-leading-zero : 0 < n → 48 < getD (digitsOf n) 0 0

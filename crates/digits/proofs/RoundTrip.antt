@@ -6,8 +6,9 @@ use mathlib.Core.List.{List, [], _∷_, _++_, foldl-append}
 use native.Mathlib.Omega.{arith}
 use borrow.Author.Tests.{le-leb, lt-ltb}
 use lib.ListN.{length, getD}
-use Rattle.decimal.specs.Digits.{isDigit, allDigits, oneMore, valueOf, numberIs, numberOf, digitsIn, digitsOf, WellWritten}
-use Rattle.decimal.proofs.Written.{each, digits-some, digits-short}
+use Rattle.decimal.specs.Numbers.{isDigit, allDigits, oneMore, valueOf, numberIs, numberOf}
+use Rattle.digits.specs.Digits.{digitsIn, digitsOf, WellWritten}
+use Rattle.digits.proofs.Written.{each, digits-some, digits-short}
 
 digit-is : (d : ℕ) → d < 10 → isDigit (48 + d) ≡ true
 digit-is d h = rw (le-leb 48 (48 + d) (omega arith), le-leb (48 + d) 57 (omega arith))

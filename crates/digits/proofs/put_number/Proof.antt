@@ -1,4 +1,4 @@
--- `decimal::put_number` meets its contract. Assumes nothing.
+-- `digits::put_number` meets its contract. Assumes nothing.
 use Prim.Native.Nat.{_+_}
 use mathlib.Core.Path.{_≡_, sym, _∙_}
 use mathlib.Core.Bool.{true}
@@ -6,10 +6,10 @@ use native.Mathlib.Omega.{arith}
 use borrow.Author.Tests.{leb-true}
 use lib.ListN.{length}
 use borrow.Author.Needs.{needs}
-use Rattle.decimal.specs.Put.{fitsAt}
-use Rattle.decimal.specs.Digits.{digitsOf}
-use Rattle.decimal.proofs.put_number.Statement.{statement}
-use Rattle.decimal.proofs.put_number.Tie as tie
+use Rattle.digits.specs.Put.{fitsAt}
+use Rattle.digits.specs.Digits.{digitsOf}
+use Rattle.digits.proofs.put_number.Statement.{statement}
+use Rattle.digits.proofs.put_number.Tie as tie
 
 -- the digits fit
 room : (c : tie.Then1) → fitsAt (length (c .before .before .before .before .args .out .now)) (c .before .before .before .before .args .at) (length (digitsOf (c .before .before .before .before .args .n))) ≡ true

@@ -1,11 +1,11 @@
--- `decimal::has_room` meets its contract. Assumes nothing.
+-- `digits::has_room` meets its contract. Assumes nothing.
 use Prim.Native.Nat.{_+_}
 use mathlib.Core.Path.{sym}
 use native.Mathlib.Omega.{arith}
 use borrow.Author.Tests.{lt-leb}
-use Rattle.decimal.proofs.Folds.{fits-within}
-use Rattle.decimal.proofs.has_room.Statement.{statement}
-use Rattle.decimal.proofs.has_room.Tie as tie
+use Rattle.digits.proofs.Places.{fits-within}
+use Rattle.digits.proofs.has_room.Statement.{statement}
+use Rattle.digits.proofs.has_room.Tie as tie
 
 returns : tie.Need-returns
 returns c = fits-within _ _ _ (c .if1 .taken)

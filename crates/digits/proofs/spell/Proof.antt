@@ -1,13 +1,13 @@
--- `decimal::spell` meets its contract. The digits of the rest, put before those that are written, give the whole; each is stored at its place, the last first. Assumes nothing.
+-- `digits::spell` meets its contract. The digits of the rest, put before those that are written, give the whole; each is stored at its place, the last first. Assumes nothing.
 use Prim.Native.Nat.{_≤_}
 use mathlib.Core.Path.{_≡_, refl, _∙_}
 use native.Mathlib.Omega.{arith}
 use lib.ListN.{length, length-set}
 use lib.Seq.{sets}
-use Rattle.decimal.specs.Digits.{digitsOf}
-use Rattle.decimal.proofs.Written.{digits-some, digits-last, digits-longer, spell-step}
-use Rattle.decimal.proofs.spell.Statement.{statement}
-use Rattle.decimal.proofs.spell.Tie as tie
+use Rattle.digits.specs.Digits.{digitsOf}
+use Rattle.digits.proofs.Written.{digits-some, digits-last, digits-longer, spell-step}
+use Rattle.digits.proofs.spell.Statement.{statement}
+use Rattle.digits.proofs.spell.Tie as tie
 
 abbrev Inv-loop : tie.InvT-loop
 Inv-loop out₀ at count n left₀ rest₀ out left rest =

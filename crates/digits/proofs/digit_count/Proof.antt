@@ -1,12 +1,12 @@
--- `decimal::digit_count` meets its contract. The digits counted and those of the rest are one more than all. Assumes nothing.
+-- `digits::digit_count` meets its contract. The digits counted and those of the rest are one more than all. Assumes nothing.
 use Prim.Native.Nat.{_+_, _≤_}
 use mathlib.Core.Path.{_≡_, ap}
 use native.Mathlib.Omega.{arith}
 use lib.ListN.{length}
-use Rattle.decimal.specs.Digits.{digitsOf}
-use Rattle.decimal.proofs.Written.{digits-short, digits-some, digits-last, digits-longer}
-use Rattle.decimal.proofs.digit_count.Statement.{statement}
-use Rattle.decimal.proofs.digit_count.Tie as tie
+use Rattle.digits.specs.Digits.{digitsOf}
+use Rattle.digits.proofs.Written.{digits-short, digits-some, digits-last, digits-longer}
+use Rattle.digits.proofs.digit_count.Statement.{statement}
+use Rattle.digits.proofs.digit_count.Tie as tie
 
 abbrev Inv-loop : tie.InvT-loop
 Inv-loop n count₀ rest₀ count rest = (rest ≤ n) × (count + length (digitsOf rest) ≡ length (digitsOf n) + 1)
