@@ -2,7 +2,7 @@
 -- Assumes nothing.
 use Prim.Native.Nat.{ℕ, zero, suc, _+_, _≤_, _<_}
 use mathlib.Core.Path.{_≡_, refl, sym, ap, _∙_}
-use mathlib.Core.Bool.{Bool, true, _&&_, cond}
+use mathlib.Core.Bool.{Bool, true, _&&_}
 use mathlib.Core.Logic.{⊎-elim}
 use native.Mathlib.Nat.{eq-or-lt-of-le}
 use native.Mathlib.Omega.{arith}
@@ -11,17 +11,18 @@ use lib.Dec.{eqb}
 use Rattle.rules.proofs.Tests.{both}
 use Rattle.family.specs.declared.Family.{Family}
 use Rattle.family.specs.declared.Family.the-variants.{Mac, Arp, Ipv4, Ipv6, Unknown}
-use Rattle.family.specs.Types.{familyOf, familyNumber}
+use Rattle.family.specs.Types.{familyOf, familyNumber, familyFrom}
 
-abbrev ofNumber : ℕ → Family
-ofNumber n = cond (eqb n 0) Unknown (cond (eqb n 1) Mac (cond (eqb n 2) Arp (cond (eqb n 3) Ipv4 Ipv6)))
-
-back : (f : Family) → ofNumber (familyNumber f) ≡ f
+back : (f : Family) → familyFrom (familyNumber f) ≡ f
 back Unknown = refl
 back Mac = refl
 back Arp = refl
 back Ipv4 = refl
 back Ipv6 = refl
+
+-- families of the same number are the same
+pub same-family : (f g : Family) → eqb (familyNumber f) (familyNumber g) ≡ true → f ≡ g
+same-family f g t = sym (back f) ∙ ap familyFrom (eqb-true (familyNumber f) (familyNumber g) t) ∙ back g
 
 -- the k numbers from low on have the family f
 abbrev pub run : Family → ℕ → ℕ → Bool
@@ -29,7 +30,7 @@ run f low zero = true
 run f low (suc k) = eqb (familyNumber f) (familyNumber (familyOf low)) && run f (suc low) k
 
 at-low : (f : Family) (low n : ℕ) → eqb (familyNumber f) (familyNumber (familyOf low)) ≡ true → low ≡ n → f ≡ familyOf n
-at-low f low n t s = rw (sym s) (sym (back f) ∙ ap ofNumber (eqb-true (familyNumber f) (familyNumber (familyOf low)) t) ∙ back (familyOf low))
+at-low f low n t s = rw (sym s) (same-family f (familyOf low) t)
 
 pub in-run : (f : Family) (low k : ℕ) → run f low k ≡ true → (n : ℕ) → low ≤ n → n < low + k → f ≡ familyOf n
 in-run f low zero t n a b = absurd (omega arith)

@@ -2,8 +2,9 @@
 -- Assumes nothing.
 use Prim.Native.Nat.{ℕ}
 use mathlib.Core.Bool.{_||_, cond}
+use mathlib.Core.List.{[], _∷_}
 use lib.Dec.{eqb}
-use Rattle.rules.specs.Rules.{within}
+use Rattle.rules.specs.Rules.{within, _is_, listedAt}
 use Rattle.family.specs.declared.Family.{Family}
 use Rattle.family.specs.declared.Family.the-variants.{Unknown, Mac, Arp, Ipv4, Ipv6}
 
@@ -23,3 +24,7 @@ familyNumber Mac = 1
 familyNumber Arp = 2
 familyNumber Ipv4 = 3
 familyNumber Ipv6 = 4
+
+-- the family that has such a number; any other number's is unknown
+abbrev pub familyFrom : ℕ → Family
+familyFrom n = listedAt (1 is Mac ∷ 2 is Arp ∷ 3 is Ipv4 ∷ 4 is Ipv6 ∷ []) Unknown n

@@ -7,7 +7,7 @@ use mathlib.Core.List.{List, [], _∷_}
 use lib.Dec.{leb, eqb}
 use lib.ListN.{length, getD}
 
-infix 68 _when_
+infix 68 _when_ _is_
 -- a number between two bounds, and one that is besides a multiple of a step
 abbrev pub within : ℕ → ℕ → ℕ → Bool
 within low high n = leb low n && leb n high
@@ -60,3 +60,18 @@ pub record Answers (cs : List Check) (n i : ℕ) : Type 0 where
   pub number-is : nth cs i .answer ≡ n
   pub cause-holds : nth cs i .cause ≡ true
   pub none-before : (j : ℕ) → j < i → nth cs j .cause ≡ false
+
+-- ---- values by their numbers
+
+-- a line of a list of values: the value of a number
+pub record Line (A : Type 0) : Type 0 where
+  pub number : ℕ
+  pub value : A
+
+abbrev pub _is_ : {A : Type 0} → ℕ → A → Line A
+n is a = record { number = n; value = a }
+
+-- the value of a number by the first line that has it, or another value where none has
+abbrev pub listedAt : {A : Type 0} → List (Line A) → A → ℕ → A
+listedAt [] other n = other
+listedAt (l ∷ ls) other n = cond (eqb n (l .number)) (l .value) (listedAt ls other n)
