@@ -1,14 +1,15 @@
 //! Random scripts: a weighted choice among aims, each a few lines long.
 
 use crate::author::Author;
+use crate::bad_lines;
 use crate::interrupt::{LEAVE, MOST_INTERVAL, OFF, ON};
 use crate::record::Direction;
-use crate::{bad_lines, burst_aims, count_aims, receive_aims, sixth_aims, transmit_aims};
+use crate::{burst_aims, count_aims, ptype_aims, receive_aims, sixth_aims, transmit_aims};
 
 type Aim = fn(&mut Author);
 
 /// How often each aim is taken, against the others.
-const AIMS: [(u64, Aim); 36] = [
+const AIMS: [(u64, Aim); 38] = [
     (6, receive_aims::fresh),
     (20, receive_aims::refused_fresh),
     (20, receive_aims::post),
@@ -44,6 +45,8 @@ const AIMS: [(u64, Aim); 36] = [
     (20, count_aims::transmit_disagrees),
     (20, count_aims::last_sends),
     (120, interrupt),
+    (40, ptype_aims::look_up),
+    (10, ptype_aims::too_large),
     (60, bad_lines::any),
 ];
 

@@ -4,7 +4,7 @@ use crate::author::Author;
 use crate::script::LONGEST_LINE;
 
 /// Good lines of every form, to be spoilt.
-const GOOD: [&str; 23] = [
+const GOOD: [&str; 24] = [
     "rx 0 32 2048",
     "rxset 0 32 0 0 9 9 2048 64 32",
     "rxpoke 0 7",
@@ -28,6 +28,7 @@ const GOOD: [&str; 23] = [
     "txreg",
     "txsum",
     "int 0 1 0 1 0 0 3 0",
+    "ptype 26",
 ];
 
 /// Numbers that are too large, or no numbers.
@@ -51,7 +52,7 @@ const UNFIT: [&str; 16] = [
 ];
 
 /// Lines that break a bound of the bench.
-const BEYOND: [&str; 41] = [
+const BEYOND: [&str; 46] = [
     "rxset 0 32 0 0 9 9 2048 16385 32",
     "rxset 0 32 0 0 9 9 2048 64 8193",
     "rxset 0 32 0 0 9 9 2048 18446744073709551615 32",
@@ -93,10 +94,15 @@ const BEYOND: [&str; 41] = [
     "int 0 18446744073709551615 0 1 0 0 3 0",
     "int 0 1 0 18446744073709551615 0 0 3 0",
     "int 0 1 0 1 0 0 3 0 0",
+    "ptype 256",
+    "ptype 257",
+    "ptype 282",
+    "ptype 4294967322",
+    "ptype 18446744073709551615",
 ];
 
 /// Whole lines of other sorts, among them records without the counts.
-const STRAY: [&str; 40] = [
+const STRAY: [&str; 52] = [
     " ",
     "  ",
     "\t",
@@ -136,6 +142,18 @@ const STRAY: [&str; 40] = [
     "rxset 0 32 0 0 2048 64 32",
     "txset 0 32 0 0 1518 64 32 32",
     "txsum 0",
+    "ptype",
+    "ptype ptype",
+    "ptype 26 26",
+    "ptype 3 4 0 1",
+    "ptyp 26",
+    "ptypes 26",
+    "Ptype 26",
+    "type 26",
+    "ptype26",
+    "ptype 0x1A",
+    "ptype +26",
+    "ptype 26.",
     "caf\u{e9}",
 ];
 

@@ -6,6 +6,8 @@ use crate::burst_cover::{self, Scene};
 use crate::count_cover::{self, Waiting};
 use crate::cover::{self, Seen};
 use crate::interrupt;
+use crate::packet_type;
+use crate::ptype_cover;
 use crate::receive::{self, Packet};
 use crate::record::{Direction, Judged, Record};
 use crate::script::{self, Command};
@@ -115,6 +117,7 @@ impl Bench {
             Command::RxReg => self.register("rxreg", Direction::Receive, out),
             Command::RxSum => self.rx_sum(out),
             Command::Int(request) => self.interrupt(request, out),
+            Command::PacketType { number } => self.packet_type(*number, out),
             _ => self.transmit_command(command, out),
         }
     }
@@ -309,6 +312,14 @@ impl Bench {
         }
         let (offset, word) = judged.unwrap_or((0, 0));
         let _ = writeln!(out, "int {answer} {offset} {word}");
+    }
+
+    /// No call: it has no answer, and refuses nothing.
+    fn packet_type(&mut self, number: u8, out: &mut String) {
+        let said = packet_type::look_up(number);
+        ptype_cover::looked_up(number, &said, &mut self.seen);
+        let [family, version, fragment, l4] = said.numbers();
+        let _ = writeln!(out, "ptype {family} {version} {fragment} {l4}");
     }
 }
 

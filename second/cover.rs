@@ -3,7 +3,7 @@
 use crate::receive::{self, Packet, DATA_SLOTS, FIELD_NAMES};
 use crate::record::bits;
 use crate::transmit::{Send, NO_ROOM_PLAIN, NO_ROOM_SEGMENTED};
-use crate::{burst_cover, count_cover, sixth_cover};
+use crate::{burst_cover, count_cover, ptype_cover, sixth_cover};
 use std::collections::BTreeMap;
 use std::fmt::Write;
 
@@ -118,8 +118,9 @@ fn width_of(field: &str) -> u32 {
     }
 }
 
-/// Every answer that a call can give (`out` has none; `bad` has no number and stands as 0).
-const PAIRS: [(&str, &[u8]); 15] = [
+/// Every answer that a call can give (`out` has none; a sum, `ptype` and `bad` have no number and
+/// stand as 0).
+const PAIRS: [(&str, &[u8]); 16] = [
     ("rx", &[0, 1]),
     ("post", &[0, 1, 2, 3]),
     ("take", &[0, 1, 4, 5]),
@@ -134,6 +135,7 @@ const PAIRS: [(&str, &[u8]); 15] = [
     ("txreg", &[0, 1]),
     ("txsum", &[0]),
     ("int", &[0, 9]),
+    ("ptype", &[0]),
     ("bad", &[0]),
 ];
 
@@ -287,6 +289,7 @@ const BAD: &[&str] = &[
     "count above 65,535",
     "flag above 1",
     "kind above its last",
+    "packet type above 255",
 ];
 
 /// Every clause behind an answer that a call can give.
@@ -418,8 +421,8 @@ impl Seen {
 
     fn clauses(&self, every_clause: bool, text: &mut String) -> usize {
         let (mut clauses, mut met, mut gaps) = (0, 0, 0);
-        let beside =
-            burst_cover::CAUSES.iter().chain(count_cover::CAUSES).chain(sixth_cover::CAUSES);
+        let beside = burst_cover::CAUSES.iter().chain(count_cover::CAUSES);
+        let beside = beside.chain(sixth_cover::CAUSES).chain(ptype_cover::CAUSES);
         for (call, answer, causes) in CAUSES.iter().chain(beside) {
             for cause in *causes {
                 let times = self.answers.get(&(*call, *answer, *cause)).copied().unwrap_or(0);
@@ -468,7 +471,8 @@ impl Seen {
 
 fn counted() -> impl Iterator<Item = &'static str> {
     let beside = burst_cover::COUNTED.into_iter().chain(count_cover::COUNTED);
-    COUNTED.into_iter().chain(beside).chain(sixth_cover::COUNTED)
+    let beside = beside.chain(sixth_cover::COUNTED).chain(ptype_cover::COUNTED);
+    COUNTED.into_iter().chain(beside)
 }
 
 fn mark(times: u64) -> &'static str {

@@ -3,7 +3,7 @@
 use crate::author::Author;
 use crate::script::LONGEST_LINE;
 use crate::{aims, bad_lines};
-use crate::{fixed_burst, fixed_counts, fixed_receive, fixed_sixth, fixed_transmit};
+use crate::{fixed_burst, fixed_counts, fixed_ptype, fixed_receive, fixed_sixth, fixed_transmit};
 
 /// Random lines at the end, from a seed of their own.
 const RANDOM_LINES: usize = 4_000;
@@ -27,6 +27,7 @@ pub fn script() -> Vec<u8> {
     fixed_sixth::all(&mut author);
     fixed_transmit::all(&mut author);
     fixed_counts::all(&mut author);
+    fixed_ptype::all(&mut author);
     bad(&mut author);
     author.say("# random lines");
     let end = author.lines() + RANDOM_LINES;

@@ -1,4 +1,4 @@
-//! The second program: document 01's calls with 02's changes up to M-102, written a second time
+//! The second program: document 01's calls with 02's changes up to M-103, written a second time
 //! from the documents alone, to be held against the proved library line by line.
 
 mod aims;
@@ -17,11 +17,16 @@ mod cover;
 mod fixed;
 mod fixed_burst;
 mod fixed_counts;
+mod fixed_ptype;
 mod fixed_receive;
 mod fixed_sixth;
 mod fixed_transmit;
 mod interrupt;
 mod layouts;
+mod packet_type;
+mod ptype_aims;
+mod ptype_cover;
+mod ptype_selftest;
 mod receive;
 mod receive_aims;
 mod record;

@@ -44,6 +44,7 @@ pub enum Command {
     TxReg,
     TxSum,
     Int(interrupt::Request),
+    PacketType { number: u8 },
 }
 
 /// Why a line is bad. Only that it is bad is ever printed.
@@ -111,7 +112,7 @@ const SEND_NUMBERS: usize = 13;
 const RECORD_NUMBERS: usize = 7;
 
 /// Each line's word, and how many numbers follow (`send`: before its addresses).
-const FORMS: [Form; 22] = [
+const FORMS: [Form; 23] = [
     form("rx", 3),
     form("rxset", RECORD_NUMBERS + 2),
     form("rxpoke", 2),
@@ -134,6 +135,7 @@ const FORMS: [Form; 22] = [
     form("txreg", 0),
     form("txsum", 0),
     form("int", 8),
+    form("ptype", 1),
 ];
 
 fn form_of(name: &[u8]) -> Result<&'static Form, Bad> {
@@ -191,7 +193,8 @@ fn command(name: &str, n: &[u64]) -> Result<Command, Bad> {
         "txtail" => Command::TxTail,
         "txreg" => Command::TxReg,
         "txsum" => Command::TxSum,
-        _ => Command::Int(interrupt_request(n)?),
+        "int" => Command::Int(interrupt_request(n)?),
+        _ => Command::PacketType { number: packet_type(n[0])? },
     })
 }
 
@@ -235,6 +238,10 @@ fn count(value: u64) -> Result<u16, Bad> {
         return Err("count above 65,535");
     }
     Ok(value as u16)
+}
+
+fn packet_type(value: u64) -> Result<u8, Bad> {
+    u8::try_from(value).map_err(|_| "packet type above 255")
 }
 
 fn flag(value: u64) -> Result<u64, Bad> {

@@ -1,5 +1,5 @@
 //! The program's own checks: the paper's examples, answer 8 against a count byte by byte, and those
-//! of the burst, of the counts and of packets of six slots.
+//! of the burst, of the counts, of packets of six slots and of packet types.
 
 use crate::author::Random;
 use crate::interrupt;
@@ -8,7 +8,8 @@ use crate::receive::{self, FIELD_NAMES};
 use crate::record::{bits, Direction, Record};
 use crate::segments;
 use crate::transmit::{self, Lent, Send};
-use crate::{aims, answers, burst_selftest, compare, count_selftest, fixed, sixth_selftest};
+use crate::{aims, answers, compare, fixed};
+use crate::{burst_selftest, count_selftest, ptype_selftest, sixth_selftest};
 use std::process::exit;
 
 pub struct Checks {
@@ -38,6 +39,7 @@ pub fn run() {
     burst_selftest::all(&mut checks);
     count_selftest::all(&mut checks);
     sixth_selftest::all(&mut checks);
+    ptype_selftest::all(&mut checks);
     script_lines(&mut checks);
     scripts(&mut checks);
     println!("selftest: {} checks, {} failed", checks.made, checks.failed);

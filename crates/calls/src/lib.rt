@@ -1,6 +1,7 @@
 // Both queues, the calls that the lines of a script ask for, and their answers. A part of the program `probe`: what it prints is compared.
 mod interrupts;
 pub mod printing;
+mod types;
 
 use command::Command;
 use forms::Said;
@@ -29,10 +30,11 @@ pub fn start() -> Bench {
     }
 }
 
-// An interrupt word, where one is asked for.
+// An interrupt word or a packet type, where one is asked for.
 fn other_line(command: Command, given: Given) -> Row {
     match command {
         Command::Int => interrupts::word(given),
+        Command::Ptype => types::entry(given),
         _ => no_row(),
     }
 }

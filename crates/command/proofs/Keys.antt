@@ -12,7 +12,8 @@ use lib.ListN.{length, getD}
 use lib.Seq.{ext-getD}
 use Rattle.command.specs.Commands.{Entry, commands, same, namedBy, commandOf, keyTo, keyOf}
 use Rattle.command.specs.declared.Command.the-variants.{Unknown}
-use Rattle.decimal.proofs.Folds.{and-left, and-right}
+use Rattle.rules.proofs.Tests.{both}
+use Rattle.rules.proofs.Matches.{Others, Rest, others}
 
 module _ (w : List ℕ) (byte : (i : ℕ) → getD w i 0 < 256) where
   pub key-some : (k : ℕ) → 1 ≤ keyTo w k
@@ -62,8 +63,8 @@ plain (b ∷ bs) = ltb b 256 && plain bs
 
 plain-bytes : (v : List ℕ) → plain v ≡ true → (i : ℕ) → getD v i 0 < 256
 plain-bytes [] p i = omega arith
-plain-bytes (b ∷ bs) p zero = ltb-true b 256 (and-left (ltb b 256) (plain bs) p)
-plain-bytes (b ∷ bs) p (suc i) = plain-bytes bs (and-right (ltb b 256) (plain bs) p) i
+plain-bytes (b ∷ bs) p zero = ltb-true b 256 (both (ltb b 256) (plain bs) p .0)
+plain-bytes (b ∷ bs) p (suc i) = plain-bytes bs (both (ltb b 256) (plain bs) p .1) i
 
 module _ (w : List ℕ) (byte : (i : ℕ) → getD w i 0 < 256) where
   -- a word with the number of one of the table names what that one names
@@ -74,23 +75,14 @@ same-true : (v w : List ℕ) → same v w ≡ true → v ≡ w
 same-true [] [] h = refl
 same-true [] (y ∷ ys) h = absurd (let z : _≡_ {A = ℕ} 0 1 = cc in omega arith)
 same-true (x ∷ xs) [] h = absurd (let z : _≡_ {A = ℕ} 0 1 = cc in omega arith)
-same-true (x ∷ xs) (y ∷ ys) h = rw (eqb-true x y (and-left (eqb x y) (same xs ys) h), same-true xs ys (and-right (eqb x y) (same xs ys) h))
+same-true (x ∷ xs) (y ∷ ys) h = rw (eqb-true x y (both (eqb x y) (same xs ys) h .0), same-true xs ys (both (eqb x y) (same xs ys) h .1))
 
--- a number that is none of these words'
-abbrev pub Others : ℕ → List Entry → Type 0
-Others k [] = Unit {0}
-Others k (e ∷ es) = (k ≡ keyOf (e .word) → ⊥) × Others k es
+-- the numbers of words
+abbrev pub keys : List Entry → List ℕ
+keys [] = []
+keys (e ∷ es) = keyOf (e .word) ∷ keys es
 
--- the same, as a match leaves it: the last word outermost
-abbrev pub Rest : ℕ → List Entry → Type 0 → Type 0
-Rest k [] A = A
-Rest k (e ∷ es) A = Rest k es (A × (k ≡ keyOf (e .word) → ⊥))
-
-pub others : (k : ℕ) (es : List Entry) (A : Type 0) → Rest k es A → A × Others k es
-others k [] A r = (r, tt)
-others k (e ∷ es) A r = let p = others k es (A × (k ≡ keyOf (e .word) → ⊥)) r in (p .0 .0, (p .0 .1, p .1))
-
-missed : (es : List Entry) (w : List ℕ) → Others (keyOf w) es → namedBy es w ≡ Unknown
+missed : (es : List Entry) (w : List ℕ) → Others (keyOf w) (keys es) → namedBy es w ≡ Unknown
 missed [] w o = refl
 missed (e ∷ es) w o = go (same (e .word) w) refl (missed es w (o .1))
   where
@@ -98,6 +90,7 @@ missed (e ∷ es) w o = go (same (e .word) w) refl (missed es w (o .1))
     go true q ih = absurd (o .0 (ap keyOf (sym (same-true (e .word) w q))))
     go false q ih = rw q ih
 
-pub unknown : (w : List ℕ) → Rest (keyOf w) commands (Unit {0}) → commandOf w ≡ Unknown
+-- a word whose number no arm of the match has
+pub unknown : (w : List ℕ) → Rest (keyOf w) (keys commands) (Unit {0}) → commandOf w ≡ Unknown
 unfolding commandOf
-unknown w r = missed commands w (others (keyOf w) commands (Unit {0}) r .1)
+unknown w r = missed commands w (others (keyOf w) (keys commands) (Unit {0}) r .1)

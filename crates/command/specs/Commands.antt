@@ -7,7 +7,7 @@ use lib.Dec.{ltb, eqb}
 use lib.ListN.{length, getD}
 use Rattle.command.specs.Bytes.{bytesOf}
 use Rattle.command.specs.declared.Command.{Command}
-use Rattle.command.specs.declared.Command.the-variants.{Unknown, Rx, RxSet, RxPoke, RxList, Post, Take, Out, Burst, RxTail, RxReg, RxSum, Tx, TxSet, TxPoke, TxToken, TxCount, Send, Reclaim, TxTail, TxReg, TxSum, Int}
+use Rattle.command.specs.declared.Command.the-variants.{Unknown, Rx, RxSet, RxPoke, RxList, Post, Take, Out, Burst, RxTail, RxReg, RxSum, Tx, TxSet, TxPoke, TxToken, TxCount, Send, Reclaim, TxTail, TxReg, TxSum, Int, Ptype}
 
 -- a word and the command that it names
 pub record Entry : Type 0 where
@@ -38,6 +38,7 @@ commands =
     ∷ record { word = bytesOf "txreg"; names = TxReg }
     ∷ record { word = bytesOf "txsum"; names = TxSum }
     ∷ record { word = bytesOf "int"; names = Int }
+    ∷ record { word = bytesOf "ptype"; names = Ptype }
     ∷ []
 
 -- two words of the same bytes

@@ -26,6 +26,7 @@ pub enum Command {
     TxReg,
     TxSum,
     Int,
+    Ptype,
 }
 
 // The longest of the words.
@@ -75,6 +76,7 @@ pub fn command_of(word: &[u8]) -> Command
         0x1_74_78_72_65_67 => Command::TxReg,
         0x1_74_78_73_75_6d => Command::TxSum,
         0x1_69_6e_74 => Command::Int,
+        0x1_70_74_79_70_65 => Command::Ptype,
         _ => Command::Unknown,
     }
 }

@@ -28,6 +28,9 @@ const MOST_COUNT: u64 = 65535;
 // The highest number for what becomes of the enable bit.
 const MOST_ENABLE: u64 = 2;
 
+// The highest packet type number.
+const MOST_PTYPE: u64 = 255;
+
 // The place behind so many addresses and lengths.
 fn pieces_end(addresses: u64, lengths: u64) -> u64 {
     let end = std::num::wrapping_add_u64(addresses, lengths);
@@ -51,6 +54,7 @@ fn count_of(command: Command, given: Given) -> u64 {
         Command::TxCount => 2,
         Command::Send => pieces_end(given.n11, given.n12),
         Command::Int => 8,
+        Command::Ptype => 1,
         _ => 0,
     }
 }
@@ -87,6 +91,7 @@ fn in_range(command: Command, given: Given) -> bool {
         Command::TxCount => (given.n0 < SLOTS as u64) & (given.n1 <= MOST_COUNT),
         Command::Send => is_send(given),
         Command::Int => is_int(given),
+        Command::Ptype => given.n0 <= MOST_PTYPE,
         _ => true,
     }
 }

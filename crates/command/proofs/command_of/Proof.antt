@@ -109,7 +109,11 @@ unfolding commandOf
 returns-22 c = named (c .before) (bytesOf "int") refl (lit≤ tt) (c .match .keys22)
 
 returns-23 : tie.Need-returns-23
-returns-23 c = sym (unknown (c .before .before .before .args .word .now) (rw (c .before .key-of .ensures) at (c .match .rest)))
+unfolding commandOf
+returns-23 c = named (c .before) (bytesOf "ptype") refl (lit≤ tt) (c .match .keys23)
+
+returns-24 : tie.Need-returns-24
+returns-24 c = sym (unknown (c .before .before .before .args .word .now) (rw (c .before .key-of .ensures) at (c .match .rest)))
 
 pub command-of-spec : {M : Type 1} → statement M
 command-of-spec =
@@ -138,4 +142,5 @@ command-of-spec =
     returns-20
     returns-21
     returns-22
-    returns-23)
+    returns-23
+    returns-24)
