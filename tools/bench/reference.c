@@ -130,6 +130,51 @@ static enum family family_of(uint8_t ptype)
     }
 }
 
+enum type_l4 { TYPE_NONE, TYPE_TCP, TYPE_SCTP, TYPE_UDP, TYPE_ICMP };
+
+struct entry {
+    uint8_t family, version;
+    bool fragment;
+    uint8_t l4;
+};
+
+#define IP(first, f, v) \
+    [first] = { f, v, true, TYPE_NONE }, [first + 1] = { f, v, false, TYPE_NONE }, [first + 2] = { f, v, false, TYPE_UDP }, \
+    [first + 4] = { f, v, false, TYPE_TCP }, [first + 5] = { f, v, false, TYPE_SCTP }, [first + 6] = { f, v, false, TYPE_ICMP }
+
+static const struct entry types[256] = {
+    [1] = { FAMILY_MAC, 0, false, TYPE_NONE },
+    [11] = { FAMILY_ARP, 0, false, TYPE_NONE },
+    IP(22, FAMILY_IPV4, 4),
+    IP(88, FAMILY_IPV6, 6),
+};
+
+static inline struct entry packet_type(uint8_t ptype)
+{
+    return types[ptype];
+}
+
+static inline struct entry entry_of(uint8_t ptype)
+{
+    switch (ptype) {
+    case 1: return (struct entry){ FAMILY_MAC, 0, false, TYPE_NONE };
+    case 11: return (struct entry){ FAMILY_ARP, 0, false, TYPE_NONE };
+    case 22: return (struct entry){ FAMILY_IPV4, 4, true, TYPE_NONE };
+    case 23: return (struct entry){ FAMILY_IPV4, 4, false, TYPE_NONE };
+    case 24: return (struct entry){ FAMILY_IPV4, 4, false, TYPE_UDP };
+    case 26: return (struct entry){ FAMILY_IPV4, 4, false, TYPE_TCP };
+    case 27: return (struct entry){ FAMILY_IPV4, 4, false, TYPE_SCTP };
+    case 28: return (struct entry){ FAMILY_IPV4, 4, false, TYPE_ICMP };
+    case 88: return (struct entry){ FAMILY_IPV6, 6, true, TYPE_NONE };
+    case 89: return (struct entry){ FAMILY_IPV6, 6, false, TYPE_NONE };
+    case 90: return (struct entry){ FAMILY_IPV6, 6, false, TYPE_UDP };
+    case 92: return (struct entry){ FAMILY_IPV6, 6, false, TYPE_TCP };
+    case 93: return (struct entry){ FAMILY_IPV6, 6, false, TYPE_SCTP };
+    case 94: return (struct entry){ FAMILY_IPV6, 6, false, TYPE_ICMP };
+    default: return (struct entry){ FAMILY_UNKNOWN, 0, false, TYPE_NONE };
+    }
+}
+
 #define FIELD(word, at, width) ((word) >> (at) & ((1ull << (width)) - 1))
 
 static inline struct write_back read_write_back(uint64_t word0, uint64_t word1)
@@ -749,6 +794,23 @@ static uint64_t int_rounds(bool idle, uint64_t rounds)
     return sum;
 }
 
+/* ---- rounds of packet types */
+
+static inline uint64_t mix_entry(uint64_t sum, struct entry e)
+{
+    return mix(mix(mix(mix(sum, e.family), e.version), e.fragment), e.l4);
+}
+
+static uint64_t type_rounds(bool table, bool idle, uint64_t rounds)
+{
+    uint64_t sum = 0;
+    for (uint64_t i = 0; i < rounds; i++) {
+        uint8_t ptype = i % 256;
+        sum = mix_entry(sum, idle ? (struct entry){ FAMILY_UNKNOWN, ptype, false, TYPE_NONE } : table ? packet_type(ptype) : entry_of(ptype));
+    }
+    return sum;
+}
+
 /* ---- lines of standard input: operation, idle, rounds, size, pieces, bytes behind the first, MSS */
 
 enum { NUMBERS = 7, MOST_SLOTS = 4096 };
@@ -793,6 +855,9 @@ static uint64_t answer(const uint64_t *values)
     case 4:
     case 5:
         return polled(values);
+    case 6:
+    case 7:
+        return type_rounds(values[0] == 6, values[1] == 1, values[2]);
     default:
         return int_rounds(values[1] == 1, values[2]);
     }
@@ -805,6 +870,7 @@ static void print_sizes(void)
     SIZE("Fresh and Posted (receive)", struct rx_answer);
     SIZE("Taken", struct rx_taken);
     SIZE("Burst", struct rx_burst);
+    SIZE("Entry of a packet type", struct entry);
     SIZE("the transmit record", struct tx_queue);
     SIZE("Fresh (transmit)", struct tx_answer);
     SIZE("Sent", struct tx_sent);

@@ -3,6 +3,7 @@
 // rounds, the ring's size, the pieces (or slots, or packets), the bytes behind the first piece, and the MSS (0: a plain send). For
 // each line comes out one number that depends on every result.
 mod interrupting;
+mod looking_up;
 
 const NUMBERS: usize = 7;
 
@@ -18,6 +19,11 @@ const SEND: u64 = 2;
 const BURST: u64 = 4;
 
 const TAKES: u64 = 5;
+
+// A packet type a round, by the table or by the match.
+const TABLE: u64 = 6;
+
+const MATCH: u64 = 7;
 
 // A line as far as it is read.
 struct Line {
@@ -68,6 +74,7 @@ fn run(
         SEND => send_rounds::rounds(size, pieces, send_rounds::wanted(behind, mss, idle, rounds)),
         BURST => burst_rounds::bursts(size, pieces, idle, rounds),
         TAKES => burst_rounds::takes(size, pieces, idle, rounds),
+        TABLE | MATCH => looking_up::rounds(operation == TABLE, idle, rounds),
         _ => interrupting::rounds(idle, rounds),
     }
 }
