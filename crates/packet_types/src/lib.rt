@@ -1,7 +1,7 @@
 // What a packet type number tells of a received packet: Intel's Table 2-4, for all 256 numbers.
 ghost use mathlib.Core.Path.{_≡_};
 ghost use Rattle.family.specs.Types.{familyFrom};
-ghost use Rattle.packet_types.specs.Table.{told, entryOf, l4Number};
+ghost use Rattle.packet_types.specs.Table.{entryOf, l4Number};
 ghost use Rattle.packet_types.specs.Steps.{l4From, unpacked};
 
 mod table;
@@ -55,27 +55,18 @@ fn l4_from(digit: u16) -> L4
     }
 }
 
-fn told(family: Family, version: u8, fragment: bool, l4: L4) -> Entry
-    ensures { λ r. ⌜ r ≡ told family version fragment l4 ⌝ }
-{
-    Entry {
-        family,
-        version,
-        fragment,
-        l4,
-    }
-}
-
 // What the digits of an entry of the table say.
 fn unpacked(digits: u16) -> Entry
     ensures { λ r. ⌜ r ≡ unpacked digits ⌝ }
 {
-    told(
-        family_from(digits % DIGIT),
-        (digits / VERSION % DIGIT) as u8,
-        digits / FRAGMENT % DIGIT == 1,
-        l4_from(digits / KIND),
-    )
+    let family = family_from(digits % DIGIT);
+    let l4 = l4_from(digits / KIND);
+    Entry {
+        family,
+        version: (digits / VERSION % DIGIT) as u8,
+        fragment: digits / FRAGMENT % DIGIT == 1,
+        l4,
+    }
 }
 
 // The entry of a packet type number, looked up in the table.
@@ -83,29 +74,6 @@ pub fn packet_type(ptype: u8) -> Entry
     ensures { λ r. ⌜ r ≡ entryOf ptype ⌝ }
 {
     unpacked(TABLE[ptype as usize])
-}
-
-// The same entry by a match: the table is built anew in each call, which not every caller can pay for.
-pub fn entry_of(ptype: u8) -> Entry
-    ensures { λ r. ⌜ r ≡ entryOf ptype ⌝ }
-{
-    match ptype {
-        1 => told(Family::Mac, 0, false, L4::None),
-        11 => told(Family::Arp, 0, false, L4::None),
-        22 => told(Family::Ipv4, 4, true, L4::None),
-        23 => told(Family::Ipv4, 4, false, L4::None),
-        24 => told(Family::Ipv4, 4, false, L4::Udp),
-        26 => told(Family::Ipv4, 4, false, L4::Tcp),
-        27 => told(Family::Ipv4, 4, false, L4::Sctp),
-        28 => told(Family::Ipv4, 4, false, L4::Icmp),
-        88 => told(Family::Ipv6, 6, true, L4::None),
-        89 => told(Family::Ipv6, 6, false, L4::None),
-        90 => told(Family::Ipv6, 6, false, L4::Udp),
-        92 => told(Family::Ipv6, 6, false, L4::Tcp),
-        93 => told(Family::Ipv6, 6, false, L4::Sctp),
-        94 => told(Family::Ipv6, 6, false, L4::Icmp),
-        _ => told(Family::Unknown, 0, false, L4::None),
-    }
 }
 
 // A number for each L4 kind, for those who print it.

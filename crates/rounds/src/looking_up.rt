@@ -4,9 +4,9 @@ use family::family_number;
 use measure::checksum;
 use packet_types::Entry;
 use packet_types::L4;
-use packet_types::entry_of;
 use packet_types::l4_number;
 use packet_types::packet_type;
+use type_match::entry_of;
 
 // What stands for an entry in an idle run.
 fn no_entry(ptype: u8) -> Entry {

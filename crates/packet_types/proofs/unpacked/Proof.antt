@@ -6,18 +6,14 @@ use Rattle.packet_types.proofs.unpacked.Tie as tie
 family-from-requires : tie.Need-family-from-requires
 family-from-requires c κs = search needs
 
-cast-told : tie.Need-cast-told
-cast-told c = search needs
-
 l4-from-requires : tie.Need-l4-from-requires
 l4-from-requires c κs = search needs
 
-told-requires : tie.Need-told-requires
-told-requires c κs = search needs
+cast-t6 : tie.Need-cast-t6
+cast-t6 c = search needs
 
 returns : tie.Need-returns
-returns c = rw (c .told .ensures, c .before .before .family-from .ensures, c .before .l4-from .ensures)
+returns c = rw (c .before .family-from .ensures, c .l4-from .ensures)
 
 pub unpacked-spec : {M : Type 1} → statement M
-unpacked-spec =
-    tie.close (tie.spec family-from-requires cast-told l4-from-requires told-requires returns)
+unpacked-spec = tie.close (tie.spec family-from-requires l4-from-requires cast-t6 returns)

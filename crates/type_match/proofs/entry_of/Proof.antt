@@ -3,9 +3,9 @@
 use mathlib.Core.Path.{sym}
 use borrow.Author.Needs.{needs}
 use Rattle.rules.proofs.Matches.{no-line}
 use Rattle.packet_types.specs.Table.{lines, unknown, entryOf}
-use Rattle.packet_types.proofs.entry_of.Statement.{statement}
-use Rattle.packet_types.proofs.entry_of.Tie as tie
+use Rattle.type_match.proofs.entry_of.Statement.{statement}
+use Rattle.type_match.proofs.entry_of.Tie as tie
 
 told-requires : tie.Need-told-requires
 told-requires c κs = search needs
