@@ -1,14 +1,14 @@
 -- That `familyOf` is one family on a whole run of numbers, by a test that antt computes.
 -- Assumes nothing.
 use Prim.Native.Nat.{ℕ, zero, suc, _+_, _≤_, _<_}
-use mathlib.Core.Path.{_≡_, refl, sym, ap, _∙_}
+use mathlib.Core.Path.{_≡_, refl, sym}
 use mathlib.Core.Bool.{Bool, true, _&&_}
 use mathlib.Core.Logic.{⊎-elim}
 use native.Mathlib.Nat.{eq-or-lt-of-le}
 use native.Mathlib.Omega.{arith}
-use borrow.Author.Tests.{eqb-true}
 use lib.Dec.{eqb}
 use Rattle.rules.proofs.Tests.{both}
+use Rattle.rules.proofs.Matches.{same-number}
 use Rattle.family.specs.declared.Family.{Family}
 use Rattle.family.specs.declared.Family.the-variants.{Mac, Arp, Ipv4, Ipv6, Unknown}
 use Rattle.family.specs.Types.{familyOf, familyNumber, familyFrom}
@@ -22,7 +22,7 @@ back Ipv6 = refl
 
 -- families of the same number are the same
 pub same-family : (f g : Family) → eqb (familyNumber f) (familyNumber g) ≡ true → f ≡ g
-same-family f g t = sym (back f) ∙ ap familyFrom (eqb-true (familyNumber f) (familyNumber g) t) ∙ back g
+same-family = same-number familyNumber familyFrom back
 
 -- the k numbers from low on have the family f
 abbrev pub run : Family → ℕ → ℕ → Bool

@@ -1,11 +1,12 @@
 -- Entries, compared by tests that antt computes.
 -- Assumes nothing.
 use Prim.Native.Nat.{ℕ}
-use mathlib.Core.Path.{_≡_, refl, sym, ap, _∙_}
+use mathlib.Core.Path.{_≡_, refl, sym}
 use mathlib.Core.Bool.{Bool, true, false, not, _&&_, cond, false≢true}
 use borrow.Author.Tests.{eqb-true}
 use lib.Dec.{eqb}
 use Rattle.rules.proofs.Tests.{both}
+use Rattle.rules.proofs.Matches.{same-number}
 use Rattle.family.specs.declared.Family.{Family}
 use Rattle.family.specs.Types.{familyNumber}
 use Rattle.family.proofs.Families.{same-family}
@@ -23,7 +24,7 @@ back Udp = refl
 back Icmp = refl
 
 pub same-l4 : (k l : L4) → eqb (l4Number k) (l4Number l) ≡ true → k ≡ l
-same-l4 k l t = sym (back k) ∙ ap l4From (eqb-true (l4Number k) (l4Number l) t) ∙ back l
+same-l4 = same-number l4Number l4From back
 
 same-bit : (a b : Bool) → cond a b (not b) ≡ true → a ≡ b
 same-bit true b t = sym t

@@ -1,9 +1,11 @@
--- What the last arm of a match knows: the number is none of those before it.
+-- What the last arm of a match knows: the number is none of those before it. And values that go by their numbers.
 -- Assumes nothing.
 use Prim.Native.Nat.{ℕ}
-use mathlib.Core.Path.{_≡_, refl}
+use mathlib.Core.Path.{_≡_, refl, sym, ap, _∙_}
+use mathlib.Core.Bool.{true}
 use mathlib.Core.List.{List, [], _∷_}
-use borrow.Author.Tests.{ne-eqb}
+use borrow.Author.Tests.{eqb-true, ne-eqb}
+use lib.Dec.{eqb}
 use Rattle.rules.specs.Rules.{Line, listedAt}
 
 -- a number that is none of these
@@ -34,3 +36,7 @@ module _ {A : Type 0} (other : A) (n : ℕ) where
   -- a number that no arm of a match has, where each line has an arm
   pub no-line : (ls : List (Line A)) → Rest n (numbers ls) (Unit {0}) → listedAt ls other n ≡ other
   no-line ls r = none-of ls (others n (numbers ls) (Unit {0}) r .1)
+
+-- values that come back from their numbers are the same where these are
+pub same-number : {A : Type 0} (number : A → ℕ) (from : ℕ → A) → ((a : A) → from (number a) ≡ a) → (a b : A) → eqb (number a) (number b) ≡ true → a ≡ b
+same-number number from back a b t = sym (back a) ∙ ap from (eqb-true (number a) (number b) t) ∙ back b
