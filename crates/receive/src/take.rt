@@ -14,7 +14,7 @@ impl RxQueue {
         ensures { λ r. ⌜ r ≡ seenBy (look self (now (ring .entry)) (now (list .entry))) (self .shared) ⌝ }
     {
         if self.lent_ok(ring.len(), list.len()) {
-            scan::posted(self.shared, self.buffer, ring, list)
+            walk::posted(self.shared, self.buffer, ring, list)
         } else {
             scan::refused(self.shared, 1)
         }

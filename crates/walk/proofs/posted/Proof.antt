@@ -5,10 +5,10 @@ use borrow.Author.Tests.{not-true, not-false}
 use Prim.Native.Nat.{_-_}
 use native.Mathlib.Omega.{arith}
 use borrow.Author.Needs.{needs}
 use Rattle.scan.specs.Told.{padded}
 use Rattle.scan.proofs.Walk.{Walked, Placed, first, none-placed, at-end, at-clear, at-wrong, next, next-placed, told}
-use Rattle.scan.proofs.posted.Statement.{statement}
-use Rattle.scan.proofs.posted.Tie as tie
+use Rattle.walk.proofs.posted.Statement.{statement}
+use Rattle.walk.proofs.posted.Tie as tie
 
 abbrev Inv-loop : tie.InvT-loop
 Inv-loop queue buffer ring list size head posted addresses₀ lengths₀ total₀ k₀ addresses lengths total k = Walked queue buffer ring list total k × Placed queue buffer ring list addresses lengths k
