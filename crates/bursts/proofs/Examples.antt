@@ -11,8 +11,8 @@ use Rattle.receive.specs.Take.{packetOf, look, takeBy, takeOf}
 use Rattle.receive.specs.Burst.{takesFrom, stoppedBy, carried, handing, told, refusalOf, made, burstOf, outAfter}
 use Rattle.history.specs.World.{postAt, takeAt, partAfter, after, reply}
 use Rattle.history.specs.History.{ifDone, packetsIn}
-use Rattle.history.specs.Examples.{start}
-use Rattle.history.proofs.Examples.{laps}
+use Rattle.laps.specs.Examples.{start}
+use Rattle.laps.proofs.Examples.{laps}
 use Rattle.bursts.specs.Acts.{withQueue, packetsTold, afterAct, upBy, asEvents, allUp, spread}
 use Rattle.bursts.specs.Demand.{BurstDemand}
 use Rattle.bursts.specs.Examples.{acts, saysAt, burstsSay, Polled}

@@ -6,7 +6,7 @@ use lib.ListN.{replicate}
 use Rattle.burst.specs.Out.{burstNumbers}
 use Rattle.receive.specs.Take.{packetOf}
 use Rattle.history.specs.World.{World, Event, poll}
-use Rattle.history.specs.Examples.{start, partIn, lastIn, postFor, writeTo}
+use Rattle.laps.specs.Examples.{start, partIn, lastIn, postFor, writeTo}
 use Rattle.bursts.specs.Acts.{Act, event, burst, burstAt, afterAct, allUp, spread, ActsAllowed}
 
 -- a burst with a limit

@@ -6,4 +6,3 @@ pub mod Late
 pub mod Demand
 pub mod Stale
 pub mod Figures
-pub mod Examples

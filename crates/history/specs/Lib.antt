@@ -4,4 +4,3 @@ pub mod Late
 pub mod Demand
 pub mod Stale
 pub mod Figures
-pub mod Examples

@@ -13,12 +13,12 @@ use Rattle.receive.specs.Post.{postAnswer}
 use Rattle.scan.specs.Scan.{allowed, writable, andThen, scan}
 use Rattle.scan.specs.Told.{sum, padded, lastWords}
 use Rattle.receive.specs.Take.{packetOf, look, takeBy, takeOf}
 use Rattle.history.specs.World.{World, Event, post, poll, write, postAt, takeAt, partAfter, after, reply, Allowed, end, replies, AllAllowed, Start}
 use Rattle.history.specs.History.{ifDone, acceptedAt, accepted, writeAt, writes, filled, written, joined, packets, completed, packetsIn, handedUp}
 use Rattle.history.specs.Late.{lateFrom, late}
 use Rattle.history.specs.Demand.{Demand3}
-use Rattle.history.specs.Examples.{start, numberOf, slotsFrom, packetFrom, packetsFrom, oneByOne, oneByOneSays, atOnce, atOnceSays, lapped, slotsPosted, slotsWritten, slotsBack, along, Laps, events, Short, Refused}
+use Rattle.laps.specs.Examples.{start, numberOf, slotsFrom, packetFrom, packetsFrom, oneByOne, oneByOneSays, atOnce, atOnceSays, lapped, slotsPosted, slotsWritten, slotsBack, along, Laps, events, Short, Refused}
 use Rattle.history.proofs.Demand.{demand3}
 
 -- ---- the device's rules as a test
 
