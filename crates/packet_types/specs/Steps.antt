@@ -1,4 +1,4 @@
--- What inner contracts cite, and the table as the code has it: a number of four digits of 16 for each entry.
+-- What inner contracts cite, and the table as the code has it: an entry is a number of four digits of 16.
 -- Assumes nothing.
 use Prim.Native.Nat.{ℕ, _/_, _%_}
 use mathlib.Core.List.{List, [], _∷_, _++_}
@@ -23,6 +23,7 @@ unpacked x = told (familyFrom (x % 16)) (x / 16 % 16) (eqb (x / 256 % 16) 1) (l4
 abbrev gap : ℕ → List ℕ → List ℕ
 gap n xs = replicate n 0 ++ xs
 
+-- the 256 numbers of the table, from that of type 0 on
 unfoldable pub table : List ℕ
 table =
     0
