@@ -6,6 +6,8 @@ use measure::checksum::number;
 use receive::Packet;
 use receive::Taken;
 use scan::PACKET_SLOTS;
+use verdict::Verdict;
+use verdict::verdict_number;
 use writeback::WriteBack;
 
 fn half(sum: u64, x: u16) -> u64 {
@@ -18,6 +20,10 @@ fn whole(sum: u64, x: u32) -> u64 {
 
 fn flag(sum: u64, x: bool) -> u64 {
     mix(sum, x as u64)
+}
+
+fn judged(sum: u64, x: Verdict) -> u64 {
+    mix(sum, verdict_number(x))
 }
 
 fn three(sum: u64, a: u64, b: u64, c: u64) -> u64 {
@@ -42,7 +48,9 @@ fn flags(sum: u64, w: WriteBack) -> u64 {
         flag(flag(flag(a, w.crcp), w.lpbk), w.ipv6exadd),
         w.int_udp_0,
     );
-    flag(flag(flag(b, w.ipe), w.l4e), w.oversize)
+    let l3 = w.l3;
+    let l4 = w.l4;
+    flag(judged(judged(b, l3), l4), w.oversize)
 }
 
 fn write_back(sum: u64, w: WriteBack) -> u64 {

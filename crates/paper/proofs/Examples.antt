@@ -3,6 +3,8 @@
 use mathlib.Core.Path.{refl}
 use Rattle.rules.specs.Rules.{allBelow}
 use Rattle.family.specs.Types.{familyOf}
+use Rattle.packet_types.specs.Table.{entryOf}
+use Rattle.verdict.specs.Verdict.{l3Of, l4Of}
 use Rattle.writeback.specs.WriteBack.{writeBackOf}
 use Rattle.slots.specs.Slots.{run}
 use Rattle.ring.specs.Queue.{askedOf}
@@ -21,7 +23,7 @@ use Rattle.transmit.specs.Send.{sendAnswer}
 use Rattle.paper.specs.Paper.{Paper, post, posts, full, written, took, afterTake}
 
 pub examples : Paper
-unfolding allBelow familyOf writeBackOf run rx.recordOk rx.lentOk rx.freshOf askedOf postedSlots postAnswer allowed andThen scan look sum padded lastWords packetOf takeBy takeOf interruptOf countBelow someBelow startOf isCrowded piecesOk addressesOk headersOk segmentationOk requestOk tx.recordOk tx.lentOk tx.freshOf sendAnswer post posts full written took afterTake
+unfolding allBelow familyOf entryOf l3Of l4Of writeBackOf run rx.recordOk rx.lentOk rx.freshOf askedOf postedSlots postAnswer allowed andThen scan look sum padded lastWords packetOf takeBy takeOf interruptOf countBelow someBelow startOf isCrowded piecesOk addressesOk headersOk segmentationOk requestOk tx.recordOk tx.lentOk tx.freshOf sendAnswer post posts full written took afterTake
 examples =
     record {
       plain-60 = refl;

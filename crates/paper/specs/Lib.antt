@@ -2,3 +2,4 @@ pub mod Paper
 pub mod Bursts
 pub mod Counts
 pub mod Sixth
+pub mod Verdicts

@@ -7,6 +7,7 @@ use mathlib.Core.Bool.{Bool, true, false}
 use mathlib.Core.List.{List, [], _∷_}
 use lib.ListN.{length, getD, set, replicate}
 use Rattle.family.specs.declared.Family.the-variants.{Ipv4}
+use Rattle.verdict.specs.declared.Verdict.the-variants.{Good}
 use Rattle.writeback.specs.WriteBack.{writeBackOf}
 use Rattle.receive.specs.declared.RxQueue.{RxQueue}
 use Rattle.receive.specs.declared.Taken.{Taken}
@@ -121,8 +122,8 @@ pub record Paper : Type 0 where
         lpbk = false;
         ipv6exadd = false;
         int_udp_0 = false;
-        ipe = false;
-        l4e = false;
+        l3 = Good;
+        l4 = Good;
         oversize = false;
         ptype = 26;
         length = 64;

@@ -10,6 +10,7 @@ use lib.ListN.{length, take}
 use lib.Seq.{take-append-seam}
 use Rattle.family.specs.Types.{familyOf}
 use Rattle.places.specs.Words.{lengthOf}
+use Rattle.verdict.specs.Verdict.{l3Of, l4Of}
 use Rattle.writeback.specs.WriteBack.{writeBackOf}
 use Rattle.scan.specs.Slots.{Slot, postedSlots}
 use Rattle.scan.specs.Scan.{Complete, Look, refuse, whole, scan}
@@ -30,7 +31,7 @@ as-taken (whole p) q = refl
 
 -- the packet of no slots is zeros throughout
 pub no-slots : packetOf [] ≡ noPacket
-unfolding packetOf padded sum lastWords writeBackOf familyOf
+unfolding packetOf padded sum lastWords writeBackOf familyOf l3Of l4Of
 no-slots = refl
 
 module _ (q : RxQueue) (ring list : List ℕ) where

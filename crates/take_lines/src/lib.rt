@@ -18,6 +18,7 @@ use script::no_row;
 use script::poke;
 use script::queue_row;
 use sum::sum_of;
+use verdict::verdict_number;
 use writeback::WriteBack;
 
 fn wide(n: usize) -> u64 {
@@ -55,6 +56,8 @@ fn with_slots(row: Row, packet: Packet) -> Row {
 // The fields of a packet's last slot behind a row.
 fn with_fields(row: Row, last: WriteBack) -> Row {
     let family = last.family;
+    let l3 = last.l3;
+    let l4 = last.l4;
     row.and(
         &[
             last.tag as u64,
@@ -69,8 +72,8 @@ fn with_fields(row: Row, last: WriteBack) -> Row {
             last.lpbk as u64,
             last.ipv6exadd as u64,
             last.int_udp_0 as u64,
-            last.ipe as u64,
-            last.l4e as u64,
+            verdict_number(l3),
+            verdict_number(l4),
             last.oversize as u64,
             from_byte(last.ptype),
             family_number(family),

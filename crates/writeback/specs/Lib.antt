@@ -1,2 +1,3 @@
 pub mod WriteBack
 pub mod Bits
+pub mod Verdicts

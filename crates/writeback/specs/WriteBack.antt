@@ -6,6 +6,11 @@ use lib.Dec.{eqb}
 use Rattle.field.specs.Field.{readAt, isSet}
 use Rattle.family.specs.declared.Family.the-variants.{Unknown}
 use Rattle.family.specs.Types.{familyOf}
+use Rattle.packet_types.specs.declared.Entry.{Entry}
+use Rattle.packet_types.specs.Table.{entryOf}
+use Rattle.verdict.specs.declared.Verdict.the-variants.{NotChecked}
+use Rattle.verdict.specs.declared.Marks.{Marks}
+use Rattle.verdict.specs.Verdict.{l3Of, l4Of}
 use Rattle.writeback.specs.declared.WriteBack.{WriteBack}
 use Rattle.places.specs.Places.{l2tag1Place, filterPlace, l2tag1pPlace, l3l4pPlace, crcpPlace, umbcastPlace, fltstatPlace, lpbkPlace, ipv6exaddPlace, intUdp0Place, ipePlace, l4ePlace, oversizePlace, ptypePlace}
 use Rattle.places.specs.Words.{Words, dd, eop, lengthOf}
@@ -17,7 +22,21 @@ tagOf x = cond (isSet l2tag1pPlace (x .word1)) (readAt l2tag1Place (x .word0)) 0
 abbrev pub hashOf : Words → ℕ
 hashOf x = cond (eqb (readAt fltstatPlace (x .word1)) 3) (readAt filterPlace (x .word0)) 0
 
--- zeros in all fields, of the family unknown
+-- what the device marked of checksums, and what Table 2-4 tells of the packet type: the verdicts go by these
+abbrev pub marksOf : ℕ → Marks
+marksOf word1 =
+    record {
+      l3l4p = isSet l3l4pPlace word1;
+      ipv6exadd = isSet ipv6exaddPlace word1;
+      int_udp_0 = isSet intUdp0Place word1;
+      ipe = isSet ipePlace word1;
+      l4e = isSet l4ePlace word1;
+    }
+
+abbrev pub typeOf : Words → Entry
+typeOf x = entryOf (readAt ptypePlace (x .word1))
+
+-- zeros in all fields, of the family unknown, nothing checked
 abbrev pub noWriteBack : WriteBack
 noWriteBack =
     record {
@@ -33,8 +52,8 @@ noWriteBack =
       lpbk = false;
       ipv6exadd = false;
       int_udp_0 = false;
-      ipe = false;
-      l4e = false;
+      l3 = NotChecked;
+      l4 = NotChecked;
       oversize = false;
       ptype = 0;
       length = 0;
@@ -57,8 +76,8 @@ writeBackOf x =
       lpbk = isSet lpbkPlace (x .word1);
       ipv6exadd = isSet ipv6exaddPlace (x .word1);
       int_udp_0 = isSet intUdp0Place (x .word1);
-      ipe = isSet ipePlace (x .word1);
-      l4e = isSet l4ePlace (x .word1);
+      l3 = l3Of (typeOf x) (marksOf (x .word1));
+      l4 = l4Of (typeOf x) (marksOf (x .word1));
       oversize = isSet oversizePlace (x .word1);
       ptype = readAt ptypePlace (x .word1);
       length = lengthOf x;

@@ -1,8 +1,13 @@
 // The reader of one write-back: what the device wrote to a received slot, field for field.
 ghost use mathlib.Core.Path.{_≡_};
-ghost use Rattle.writeback.specs.WriteBack.{tagOf, hashOf, writeBackOf};
+ghost use Rattle.writeback.specs.WriteBack.{tagOf, hashOf, marksOf, writeBackOf};
 use family::Family;
 use family::family_of;
+use type_match::entry_of;
+use verdict::Marks;
+use verdict::Verdict;
+use verdict::l3_verdict;
+use verdict::l4_verdict;
 
 // The fields of a write-back. A tag or a hash that is not there reads as 0.
 pub struct WriteBack {
@@ -18,8 +23,8 @@ pub struct WriteBack {
     pub lpbk: bool,
     pub ipv6exadd: bool,
     pub int_udp_0: bool,
-    pub ipe: bool,
-    pub l4e: bool,
+    pub l3: Verdict,
+    pub l4: Verdict,
     pub oversize: bool,
     pub ptype: u8,
     pub length: usize,
@@ -89,6 +94,19 @@ fn hash_of(word0: u64, word1: u64) -> u32
     }
 }
 
+// What the device says of checksums; the error bits are seen through the verdicts alone.
+fn marks_of(word1: u64) -> Marks
+    ensures { λ r. ⌜ r ≡ marksOf word1 ⌝ }
+{
+    Marks {
+        l3l4p: (word1 >> L3L4P) % ONE_BIT == 1,
+        ipv6exadd: (word1 >> IPV6EXADD) % ONE_BIT == 1,
+        int_udp_0: (word1 >> INT_UDP_0) % ONE_BIT == 1,
+        ipe: (word1 >> IPE) % ONE_BIT == 1,
+        l4e: (word1 >> L4E) % ONE_BIT == 1,
+    }
+}
+
 pub fn read(word0: u64, word1: u64) -> WriteBack
     ensures { λ r. ⌜ r ≡ writeBackOf (record { word0 = word0; word1 = word1 }) ⌝ }
 {
@@ -96,21 +114,25 @@ pub fn read(word0: u64, word1: u64) -> WriteBack
     let tag = tag_of(word0, word1);
     let hash = hash_of(word0, word1);
     let family = family_of(ptype);
+    let entry = entry_of(ptype);
+    let marks = marks_of(word1);
+    let l3 = l3_verdict(entry, marks);
+    let l4 = l4_verdict(entry, marks);
     WriteBack {
         tag,
         hash,
         dd: places::dd(word1),
         eop: places::eop(word1),
         l2tag1p: (word1 >> L2TAG1P) % ONE_BIT == 1,
-        l3l4p: (word1 >> L3L4P) % ONE_BIT == 1,
+        l3l4p: marks.l3l4p,
         crcp: (word1 >> CRCP) % ONE_BIT == 1,
         umbcast: ((word1 >> UMBCAST) % TWO_BITS) as u8,
         fltstat: ((word1 >> FLTSTAT) % TWO_BITS) as u8,
         lpbk: (word1 >> LPBK) % ONE_BIT == 1,
-        ipv6exadd: (word1 >> IPV6EXADD) % ONE_BIT == 1,
-        int_udp_0: (word1 >> INT_UDP_0) % ONE_BIT == 1,
-        ipe: (word1 >> IPE) % ONE_BIT == 1,
-        l4e: (word1 >> L4E) % ONE_BIT == 1,
+        ipv6exadd: marks.ipv6exadd,
+        int_udp_0: marks.int_udp_0,
+        l3,
+        l4,
         oversize: (word1 >> OVERSIZE) % ONE_BIT == 1,
         ptype,
         length: places::length(word1),
