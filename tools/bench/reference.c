@@ -37,6 +37,7 @@ static inline bool address_wrong(uint64_t address, uint64_t length)
 
 enum { DATA_SLOTS = 5, PACKET_SLOTS = DATA_SLOTS + 1, BUFFER_LEAST = 1024, BUFFER_MOST = 16256, BUFFER_STEP = 128, BURST_PACKETS = 32, BURST_NUMBERS = 3 * BURST_PACKETS };
 enum family { FAMILY_UNKNOWN, FAMILY_MAC, FAMILY_ARP, FAMILY_IPV4, FAMILY_IPV6 };
+enum verdict { NOT_CHECKED, GOOD, BAD };
 
 struct rx_queue {
     size_t queue, size, head, posted;
@@ -49,7 +50,9 @@ struct write_back {
     uint32_t hash;
     bool dd, eop, l2tag1p, l3l4p, crcp;
     uint8_t umbcast, fltstat;
-    bool lpbk, ipv6exadd, int_udp_0, ipe, l4e, oversize;
+    bool lpbk, ipv6exadd, int_udp_0;
+    uint8_t l3, l4;
+    bool oversize;
     uint8_t ptype;
     size_t length;
     uint8_t family;
@@ -114,22 +117,6 @@ static struct rx_answer rx_post(struct rx_queue q, uint64_t *restrict ring, size
     return (struct rx_answer){ 0, q };
 }
 
-static enum family family_of(uint8_t ptype)
-{
-    switch (ptype) {
-    case 1:
-        return FAMILY_MAC;
-    case 11:
-        return FAMILY_ARP;
-    case 22: case 23: case 24: case 26: case 27: case 28:
-        return FAMILY_IPV4;
-    case 88: case 89: case 90: case 92: case 93: case 94:
-        return FAMILY_IPV6;
-    default:
-        return FAMILY_UNKNOWN;
-    }
-}
-
 enum type_l4 { TYPE_NONE, TYPE_TCP, TYPE_SCTP, TYPE_UDP, TYPE_ICMP };
 
 struct entry {
@@ -177,6 +164,27 @@ static inline struct entry entry_of(uint8_t ptype)
 
 #define FIELD(word, at, width) ((word) >> (at) & ((1ull << (width)) - 1))
 
+static inline enum verdict by_bit(bool wrong)
+{
+    return wrong ? BAD : GOOD;
+}
+
+/* of a packet that the device has checked; unknown types and fragments have no L4 kind */
+static inline enum verdict l4_verdict(struct entry e, uint64_t word1)
+{
+    switch (e.l4) {
+    case TYPE_UDP:
+        if (FIELD(word1, 18, 1))
+            return e.family == FAMILY_IPV6 ? BAD : NOT_CHECKED;
+        /* fall through */
+    case TYPE_TCP:
+    case TYPE_SCTP:
+        return FIELD(word1, 15, 1) ? NOT_CHECKED : by_bit(FIELD(word1, 23, 1));
+    default:
+        return NOT_CHECKED;
+    }
+}
+
 static inline struct write_back read_write_back(uint64_t word0, uint64_t word1)
 {
     struct write_back w;
@@ -190,14 +198,15 @@ static inline struct write_back read_write_back(uint64_t word0, uint64_t word1)
     w.lpbk = FIELD(word1, 14, 1);
     w.ipv6exadd = FIELD(word1, 15, 1);
     w.int_udp_0 = FIELD(word1, 18, 1);
-    w.ipe = FIELD(word1, 22, 1);
-    w.l4e = FIELD(word1, 23, 1);
     w.oversize = FIELD(word1, 25, 1);
     w.ptype = FIELD(word1, 30, 8);
     w.length = FIELD(word1, 38, 14);
     w.tag = w.l2tag1p ? FIELD(word0, 16, 16) : 0;
     w.hash = w.fltstat == 3 ? word0 >> 32 : 0;
-    w.family = family_of(w.ptype);
+    struct entry e = packet_type(w.ptype);
+    w.family = e.family;
+    w.l3 = w.l3l4p && e.family == FAMILY_IPV4 ? by_bit(FIELD(word1, 22, 1)) : NOT_CHECKED;
+    w.l4 = w.l3l4p ? l4_verdict(e, word1) : NOT_CHECKED;
     return w;
 }
 
@@ -544,7 +553,7 @@ static inline uint64_t mix_taken(uint64_t sum, const struct rx_taken *t)
         sum = mix(sum, p->lengths[k]);
     sum = mix(mix(mix(mix(sum, w->dd), w->eop), w->l2tag1p), w->l3l4p);
     sum = mix(mix(mix(mix(sum, w->crcp), w->lpbk), w->ipv6exadd), w->int_udp_0);
-    sum = mix(mix(mix(sum, w->ipe), w->l4e), w->oversize);
+    sum = mix(mix(mix(sum, w->l3), w->l4), w->oversize);
     sum = mix(mix(sum, w->tag), w->hash);
     sum = mix(mix(mix(sum, w->umbcast), w->fltstat), w->ptype);
     return mix(mix(sum, w->length), w->family);
