@@ -4,12 +4,13 @@ use crate::author::Author;
 use crate::bad_lines;
 use crate::interrupt::{LEAVE, MOST_INTERVAL, OFF, ON};
 use crate::record::Direction;
+use crate::verdict_aims;
 use crate::{burst_aims, count_aims, ptype_aims, receive_aims, sixth_aims, transmit_aims};
 
 type Aim = fn(&mut Author);
 
 /// How often each aim is taken, against the others.
-const AIMS: [(u64, Aim); 38] = [
+const AIMS: [(u64, Aim); 41] = [
     (6, receive_aims::fresh),
     (20, receive_aims::refused_fresh),
     (20, receive_aims::post),
@@ -28,6 +29,9 @@ const AIMS: [(u64, Aim); 38] = [
     (20, count_aims::receive_disagrees),
     (12, count_aims::last_posts),
     (20, sixth_aims::fifth_and_sixth),
+    (20, verdict_aims::one_type),
+    (16, verdict_aims::any_type),
+    (12, verdict_aims::more_slots),
     (6, transmit_aims::fresh),
     (20, transmit_aims::refused_fresh),
     (40, transmit_aims::plain),

@@ -14,6 +14,7 @@ use crate::script::{self, Command};
 use crate::segments;
 use crate::sixth_cover::{self, Queue};
 use crate::transmit::{self, Lent, Send};
+use crate::verdict_cover;
 use std::fmt::Write;
 
 pub struct Receive {
@@ -198,7 +199,9 @@ impl Bench {
         let rx = &self.rx;
         let (ring, list) = (&rx.ring[..rx.lent_ring], &rx.list[..rx.lent_list]);
         let judged = receive::take(rx.record, ring, list);
-        sixth_cover::TAKE.met(Queue { record: rx.record, ring, list }, &mut self.seen);
+        let queue = Queue { record: rx.record, ring, list };
+        sixth_cover::TAKE.met(queue, &mut self.seen);
+        verdict_cover::met(queue, &judged, &mut self.seen);
         let done = match &judged {
             Ok((_, packet)) => cover::packet_kind(packet),
             Err(_) => "",

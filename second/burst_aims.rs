@@ -99,7 +99,7 @@ fn queue_of(random: &mut Random, slots: u64) -> Record {
 }
 
 /// Takes and bursts read only word 1 until a packet is complete, so word 0 is left.
-fn written(author: &mut Author, record: &Record, distance: u64, word1: u64) {
+pub fn written(author: &mut Author, record: &Record, distance: u64, word1: u64) {
     author.say(format!("rxpoke {} {word1}", 2 * record.slot(distance) + 1));
 }
 

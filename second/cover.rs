@@ -3,7 +3,7 @@
 use crate::receive::{self, Packet, DATA_SLOTS, FIELD_NAMES};
 use crate::record::bits;
 use crate::transmit::{Send, NO_ROOM_PLAIN, NO_ROOM_SEGMENTED};
-use crate::{burst_cover, count_cover, ptype_cover, sixth_cover};
+use crate::{burst_cover, count_cover, ptype_cover, sixth_cover, verdict_cover};
 use std::collections::BTreeMap;
 use std::fmt::Write;
 
@@ -113,7 +113,7 @@ fn width_of(field: &str) -> u32 {
         "VLAN" => 16,
         "HASH" => 32,
         "PTYPE" => 8,
-        "UMBCAST" | "FLTSTAT" => 2,
+        "UMBCAST" | "FLTSTAT" | "L3" | "L4" => 2,
         _ => 1,
     }
 }
@@ -377,8 +377,8 @@ const COUNTED: [&str; 32] = [
     "LPBK",
     "IPV6EXADD",
     "INT_UDP_0",
-    "IPE",
-    "L4E",
+    "L3",
+    "L4",
     "OVERSIZE",
     "PTYPE",
     "write-back word 0",
@@ -423,6 +423,7 @@ impl Seen {
         let (mut clauses, mut met, mut gaps) = (0, 0, 0);
         let beside = burst_cover::CAUSES.iter().chain(count_cover::CAUSES);
         let beside = beside.chain(sixth_cover::CAUSES).chain(ptype_cover::CAUSES);
+        let beside = beside.chain(verdict_cover::CAUSES);
         for (call, answer, causes) in CAUSES.iter().chain(beside) {
             for cause in *causes {
                 let times = self.answers.get(&(*call, *answer, *cause)).copied().unwrap_or(0);
@@ -472,7 +473,7 @@ impl Seen {
 fn counted() -> impl Iterator<Item = &'static str> {
     let beside = burst_cover::COUNTED.into_iter().chain(count_cover::COUNTED);
     let beside = beside.chain(sixth_cover::COUNTED).chain(ptype_cover::COUNTED);
-    COUNTED.into_iter().chain(beside)
+    COUNTED.into_iter().chain(beside).chain(verdict_cover::COUNTED)
 }
 
 fn mark(times: u64) -> &'static str {

@@ -1,6 +1,7 @@
 //! The fixed script: what every limit and every bit asks for, then random lines.
 
 use crate::author::Author;
+use crate::fixed_verdict;
 use crate::script::LONGEST_LINE;
 use crate::{aims, bad_lines};
 use crate::{fixed_burst, fixed_counts, fixed_ptype, fixed_receive, fixed_sixth, fixed_transmit};
@@ -28,6 +29,7 @@ pub fn script() -> Vec<u8> {
     fixed_transmit::all(&mut author);
     fixed_counts::all(&mut author);
     fixed_ptype::all(&mut author);
+    fixed_verdict::all(&mut author);
     bad(&mut author);
     author.say("# random lines");
     let end = author.lines() + RANDOM_LINES;

@@ -1,4 +1,4 @@
-//! The second program: document 01's calls with 02's changes up to M-103, written a second time
+//! The second program: document 01's calls with 02's changes up to M-104, written a second time
 //! from the documents alone, to be held against the proved library line by line.
 
 mod aims;
@@ -21,6 +21,7 @@ mod fixed_ptype;
 mod fixed_receive;
 mod fixed_sixth;
 mod fixed_transmit;
+mod fixed_verdict;
 mod interrupt;
 mod layouts;
 mod packet_type;
@@ -38,6 +39,10 @@ mod sixth_cover;
 mod sixth_selftest;
 mod transmit;
 mod transmit_aims;
+mod verdict;
+mod verdict_aims;
+mod verdict_cover;
+mod verdict_selftest;
 
 use bench::Bench;
 use std::fs;

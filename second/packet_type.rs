@@ -39,6 +39,19 @@ impl PacketType {
     pub fn numbers(&self) -> [u64; 4] {
         [self.family, self.version, self.fragment, self.l4]
     }
+
+    pub fn is_of(&self, family: &str) -> bool {
+        self.family == place(family, &FAMILIES)
+    }
+
+    pub fn is_fragment(&self) -> bool {
+        self.fragment == 1
+    }
+
+    /// Whether this is its L4 kind; "none" if it has none.
+    pub fn has(&self, l4: &str) -> bool {
+        self.l4 == place(l4, &L4_KINDS)
+    }
 }
 
 /// What the table says of this number. One that it does not list, reserves or asks to ignore is

@@ -2,6 +2,7 @@
 
 use crate::record::{bits, judge_buffer, judge_length, unless_broken};
 use crate::record::{Direction, Judged, Record};
+use crate::verdict::verdicts;
 
 /// A packet is one to five slots with data ..
 pub const DATA_SLOTS: usize = 5;
@@ -45,12 +46,15 @@ pub const FIELD_NAMES: [&str; FIELDS] = [
     "LPBK",
     "IPV6EXADD",
     "INT_UDP_0",
-    "IPE",
-    "L4E",
+    "L3",
+    "L4",
     "OVERSIZE",
     "PTYPE",
     "FAMILY",
 ];
+
+/// The places of L3 and L4 among them.
+pub const VERDICTS: [usize; 2] = [12, 13];
 
 #[derive(Clone, Copy, Debug, Default, PartialEq, Eq)]
 pub struct Packet {
@@ -137,13 +141,14 @@ pub fn length_of(word1: u64) -> u64 {
     bits(word1, 51, 38)
 }
 
-/// The fields named in document 01, of the last slot's two words.
+/// The fields named in document 01, of the last slot's two words; for raw IPE and L4E the verdicts.
 pub fn fields(word0: u64, word1: u64) -> [u64; FIELDS] {
     let status = bits(word1, 18, 0);
     let error = bits(word1, 26, 19);
     let packet_type = bits(word1, 37, 30);
     let tag_present = bits(status, 2, 2);
     let filter_status = bits(status, 13, 12);
+    let [l3, l4] = verdicts(word1);
     [
         if tag_present == 1 { bits(word0, 31, 16) } else { 0 },
         if filter_status == 0b11 { bits(word0, 63, 32) } else { 0 },
@@ -157,8 +162,8 @@ pub fn fields(word0: u64, word1: u64) -> [u64; FIELDS] {
         bits(status, 14, 14),
         bits(status, 15, 15),
         bits(status, 18, 18),
-        bits(error, 3, 3),
-        bits(error, 4, 4),
+        l3 as u64,
+        l4 as u64,
         bits(error, 6, 6),
         packet_type,
         family(packet_type),

@@ -4,6 +4,7 @@ use crate::author::{Author, Random};
 use crate::burst_aims::{poll, take_or_poll};
 use crate::receive::{DATA_SLOTS, MOST_SLOTS};
 use crate::record::{Direction, Record, BUFFER, SIZE};
+use crate::verdict_aims::{KNOWN, UNKNOWN};
 
 pub fn fresh(author: &mut Author) {
     let random = &mut author.random;
@@ -77,7 +78,8 @@ pub fn word1(random: &mut Random, length: u64, eop: bool) -> u64 {
         _ => random.next(),
     };
     if random.one_in(2) {
-        let packet_type = random.pick(&[0, 1, 11, 12, 22, 24, 25, 26, 28, 29, 88, 90, 91, 92, 94]);
+        let packet_type =
+            if random.one_in(4) { random.pick(&UNKNOWN) } else { random.pick(&KNOWN) };
         word = word & !(0xFF << 30) | packet_type << 30;
     }
     if random.one_in(3) {

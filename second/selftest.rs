@@ -1,5 +1,5 @@
 //! The program's own checks: the paper's examples, answer 8 against a count byte by byte, and those
-//! of the burst, of the counts, of packets of six slots and of packet types.
+//! of the burst, of the counts, of packets of six slots, of packet types and of verdicts.
 
 use crate::author::Random;
 use crate::interrupt;
@@ -9,7 +9,7 @@ use crate::record::{bits, Direction, Record};
 use crate::segments;
 use crate::transmit::{self, Lent, Send};
 use crate::{aims, answers, compare, fixed};
-use crate::{burst_selftest, count_selftest, ptype_selftest, sixth_selftest};
+use crate::{burst_selftest, count_selftest, ptype_selftest, sixth_selftest, verdict_selftest};
 use std::process::exit;
 
 pub struct Checks {
@@ -40,6 +40,7 @@ pub fn run() {
     count_selftest::all(&mut checks);
     sixth_selftest::all(&mut checks);
     ptype_selftest::all(&mut checks);
+    verdict_selftest::all(&mut checks);
     script_lines(&mut checks);
     scripts(&mut checks);
     println!("selftest: {} checks, {} failed", checks.made, checks.failed);
@@ -67,7 +68,7 @@ fn words_of_the_paper(checks: &mut Checks) {
     let found = receive::fields(0, 0x0000_1006_8000_000B);
     for (name, value) in FIELD_NAMES.iter().zip(found) {
         let wanted = match *name {
-            "DD" | "EOP" | "L3L4P" => 1,
+            "DD" | "EOP" | "L3L4P" | "L3" | "L4" => 1,
             "PTYPE" => 26,
             "FAMILY" => 3,
             _ => 0,

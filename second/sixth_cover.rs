@@ -155,7 +155,7 @@ fn is_empty_end(word1: u64) -> bool {
 
 impl Queue<'_> {
     /// Both words of the slot at this distance from head, posted or not.
-    fn words(&self, distance: u64) -> [u64; 2] {
+    pub fn words(&self, distance: u64) -> [u64; 2] {
         let slot = self.record.slot(distance);
         [self.ring[2 * slot], self.ring[2 * slot + 1]]
     }

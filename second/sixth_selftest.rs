@@ -106,7 +106,7 @@ fn branch_lines(checks: &mut Checks) {
     let script = format!("{set}{list}{full}take\n{sixth}{behind}take\ntake\ntake");
     let none = " 0".repeat(31);
     let pairs = "128 2048 129 2048 130 2048 131 2048 100 2048 101 0";
-    let fields = "42 0 1 1 1 1 0 0 0 0 0 0 0 0 0 26 3";
+    let fields = "42 0 1 1 1 1 0 0 0 0 0 0 1 1 0 26 3";
     let last = format!("1 60 0 60{} 1 1{}", " 0".repeat(12), " 0".repeat(13));
     let wanted = format!(
         "take 4 28 7 17 10{none}\n\
