@@ -19,7 +19,7 @@ const AIMS: [(u64, Aim); 41] = [
     (60, receive_aims::traffic),
     (40, receive_aims::damaged_write_back),
     (16, receive_aims::stale),
-    (30, receive_aims::damaged),
+    (45, receive_aims::damaged),
     (30, receive_aims::look),
     (6, receive_aims::scribble),
     (30, burst_aims::ready),
@@ -28,7 +28,7 @@ const AIMS: [(u64, Aim); 41] = [
     (10, burst_aims::write),
     (20, count_aims::receive_disagrees),
     (12, count_aims::last_posts),
-    (20, sixth_aims::fifth_and_sixth),
+    (45, sixth_aims::fifth_and_sixth),
     (20, verdict_aims::one_type),
     (16, verdict_aims::any_type),
     (12, verdict_aims::more_slots),
@@ -37,13 +37,13 @@ const AIMS: [(u64, Aim); 41] = [
     (40, transmit_aims::plain),
     (40, transmit_aims::segmented),
     (40, transmit_aims::crowd),
-    (120, transmit_aims::refused),
+    (180, transmit_aims::refused),
     (30, transmit_aims::muddled),
     (60, transmit_aims::reclaim),
     (12, transmit_aims::wrong_mark),
     (12, transmit_aims::wrong_count),
     (30, transmit_aims::fill),
-    (30, transmit_aims::damaged),
+    (45, transmit_aims::damaged),
     (30, transmit_aims::look),
     (6, transmit_aims::scribble),
     (20, count_aims::transmit_disagrees),
@@ -51,11 +51,11 @@ const AIMS: [(u64, Aim); 41] = [
     (120, interrupt),
     (40, ptype_aims::look_up),
     (10, ptype_aims::too_large),
-    (60, bad_lines::any),
+    (100, bad_lines::any),
 ];
 
 /// A line of thousands of pieces is long, so these come once in so many aims.
-const MANY_ONE_IN: u64 = 250;
+const MANY_ONE_IN: u64 = 160;
 const LONG_ONE_IN: u64 = 30_000;
 /// Packets of six slots for the longest burst are some 210 lines.
 const LONGEST_BURST_ONE_IN: u64 = 1_000;

@@ -206,10 +206,18 @@ pub fn longest(author: &mut Author) {
         let fewer = author.random.below(MOST_PACKETS);
         author.rxset(record.moved_on(MOST * fewer));
         poll(author);
+        author.rxset(record.moved_on(MOST * fewer));
+        author.say(format!("burst {MOST_PACKETS} {LENT}"));
     }
     // the last sixth slot is past the posted ones
-    author.rxset(record.with_posted(slots - 1));
-    author.say(format!("burst {MOST_PACKETS} {LENT}"));
+    let short = record.with_posted(slots - 1);
+    let fewer = author.random.between(1, MOST_PACKETS - 2);
+    for record in [short, short.moved_on(MOST * fewer)] {
+        author.rxset(record);
+        author.say(format!("burst {MOST_PACKETS} {LENT}"));
+    }
+    author.rxset(record);
+    author.say(format!("burst {} {LENT}", MOST_PACKETS - 1));
 }
 
 /// A driver that polls: buffers are posted, packets come, and a burst takes them.

@@ -2,10 +2,10 @@
 //! queues whose count is about to end.
 
 use crate::author::{Author, Random};
-use crate::burst_aims::take_or_poll;
+use crate::burst_aims::{self, take_or_poll};
 use crate::layouts;
 use crate::receive_aims::{self, device_packet};
-use crate::record::{Direction, Record};
+use crate::record::{Direction, Record, MOST_EVER};
 use crate::transmit_aims::{self, mark_oldest};
 
 /// Counts that mostly disagree with posted, from ones that agree.
@@ -73,6 +73,7 @@ pub fn last_posts(author: &mut Author) {
         take_or_poll(author);
     }
     author.say("post 4096");
+    burst_aims::refused(author);
 }
 
 /// A send that the count has room for, or lacks it by little; then the same after a reclaim.
@@ -91,6 +92,9 @@ pub fn last_sends(author: &mut Author) {
     let room = random.pick(&[0, slots - 1, slots - 1, slots, slots, slots + 1, 2 * slots]);
     let full = (record.size - 1).saturating_sub(random.pick(&[0, slots - 1, slots]));
     let posted = random.pick(&[record.posted, 0, full, full]);
+    // now and then it is 2^32 that the count comes to
+    let far = MOST_EVER - (1 << 32) + 1 + random.below(slots);
+    let room = if random.one_in(4) { far } else { room };
     author.txset(record.with_posted(posted).with_count_room(room));
     if posted == full {
         author.say(format!("txcount {} {}", record.head, posted.min(slots)));
@@ -100,7 +104,10 @@ pub fn last_sends(author: &mut Author) {
         mark_oldest(author);
         author.say("reclaim");
     }
-    if author.random.one_in(4) {
+    if author.random.one_in(2) {
         transmit_aims::refused(author);
+    }
+    if author.random.one_in(4) {
+        transmit_aims::wrong_count(author);
     }
 }

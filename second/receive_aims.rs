@@ -235,10 +235,10 @@ pub fn damaged(author: &mut Author) {
     let (mut ring, mut list) = (2 * size, size);
     match random.below(9) {
         0 => record.queue = random.pick(&[4, 5, u64::MAX]),
-        1 => record.size = random.pick(&[0, 16, 31, 33, 4095, 4097, 4128, 8160, u64::MAX]),
+        1 => record.size = random.pick(&[0, 31, 33, 48, 63, 4095, 4097, 4128, 8160, u64::MAX]),
         2 => record.head = random.pick(&[size, size + 1, u64::MAX]),
         3 => record = record.with_posted(random.pick(&[size, size + 1, u64::MAX])),
-        4 => record.limit = random.pick(&[0, 896, 1023, 1025, 16_255, 16_257, 16_384, u64::MAX]),
+        4 => record.limit = random.pick(&[0, 1023, 1025, 2000, 16_255, 16_257, 16_384, u64::MAX]),
         5 => ring = random.pick(&[0, 2 * size - 1, 2 * size + 1, size, 16_384]),
         6 => list = random.pick(&[0, size - 1, size + 1, 8192]),
         7 => {

@@ -1,6 +1,7 @@
 //! What a random script tries at the fifth and the sixth slot of a packet.
 
 use crate::author::{Author, Random};
+use crate::burst::LENT;
 use crate::burst_aims::poll;
 use crate::receive::DATA_SLOTS;
 use crate::receive_aims::{length, mend, word1, written};
@@ -10,10 +11,10 @@ use crate::record::{Record, BUFFER};
 fn queue(random: &mut Random) -> Record {
     let size = random.pick(&[32, 32, 64, 4096]);
     let posted = random.pick(&[5, 5, 6, 6, 7, 7, 8, size - 1]);
-    let head = if random.one_in(4) { random.below(size) } else { size - random.between(1, 8) };
+    let head = if random.one_in(4) { random.below(size) } else { size - random.between(1, 6) };
     let limit = BUFFER.step * random.between(8, 127);
     let record = Record { queue: random.below(4), size, head, limit, ..random.counted(posted) };
-    if random.one_in(4) {
+    if random.one_in(3) {
         return record.with_count_room(0);
     }
     record
@@ -30,7 +31,7 @@ fn deciding(random: &mut Random, buffer: u64) -> u64 {
         _ => (buffer + 1, random.one_in(2)),
     };
     let word = word1(random, bytes, eop);
-    if random.one_in(6) {
+    if random.one_in(4) {
         return word & !1;
     }
     word
@@ -54,6 +55,10 @@ pub fn fifth_and_sixth(author: &mut Author) {
     author.rxset(record);
     author.say("take");
     author.rxset(record);
-    poll(author);
+    if author.random.one_in(2) {
+        author.say(format!("burst 1 {LENT}"));
+    } else {
+        poll(author);
+    }
     mend(author);
 }

@@ -349,7 +349,7 @@ pub fn damaged(author: &mut Author) {
     let mut lent = [2 * size, size, size];
     match random.below(10) {
         0 => record.queue = random.pick(&[4, 5, u64::MAX]),
-        1 => record.size = random.pick(&[0, 16, 31, 33, 4095, 4097, 4128, 8160, u64::MAX]),
+        1 => record.size = random.pick(&[0, 31, 33, 48, 63, 4095, 4097, 4128, 8160, u64::MAX]),
         2 => record.head = random.pick(&[size, size + 1, u64::MAX]),
         3 => record = record.with_posted(random.pick(&[size, size + 1, u64::MAX])),
         4 => record.limit = random.pick(&[0, 1517, 9729, u64::MAX]),
