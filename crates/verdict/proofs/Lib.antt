@@ -1,2 +1,3 @@
 pub mod Rules
+pub mod Types
 pub mod Outcomes

@@ -1,18 +1,43 @@
 -- Laws of rules in their order, whatever their causes.
 -- Assumes nothing.
+use Prim.Native.Nat.{ℕ}
 use mathlib.Core.Path.{_≡_, refl, sym, ap, _∙_}
 use mathlib.Core.Logic.{_≢_}
-use mathlib.Core.Bool.{Bool, true, false, not, cond, true≢false}
+use mathlib.Core.Bool.{Bool, true, false, not, _||_, cond, true≢false}
 use mathlib.Core.List.{List, [], _∷_, _++_}
 use native.Mathlib.Omega.{arith}
 use borrow.Author.Tests.{not-false}
+use lib.Dec.{eqb}
 use Rattle.rules.proofs.Tests.{neither}
-use Rattle.family.specs.declared.Family.the-variants.{Unknown}
+use Rattle.family.specs.declared.Family.the-variants.{Unknown, Ipv4, Ipv6}
+use Rattle.family.specs.Types.{familyNumber}
+use Rattle.packet_types.specs.declared.L4.{L4}
 use Rattle.packet_types.specs.declared.Entry.{Entry}
 use Rattle.verdict.specs.declared.Verdict.{Verdict}
-use Rattle.verdict.specs.declared.Verdict.the-variants.{NotChecked, Good, Bad}
+use Rattle.verdict.specs.declared.Verdict.the-variants.{NotChecked, Bad}
 use Rattle.verdict.specs.declared.Marks.{Marks}
-use Rattle.verdict.specs.Verdict.{Rule, _if_, decided, verdictNumber, isUnknown, noneChecked}
+use Rattle.verdict.specs.Verdict.{Rule, _if_, decided, verdictNumber, isUnknown, noneChecked, typed}
+
+-- ---- tests in another order
+
+or-false : (b : Bool) → b || false ≡ b
+or-false true = refl
+or-false false = refl
+
+ip-known : (b : Bool) → eqb (familyNumber (cond b Ipv4 Ipv6)) 0 ≡ false
+ip-known true = refl
+ip-known false = refl
+
+-- of a known type the first rule asks for L3L4P alone
+pub known : (v : ℕ) (k : L4) (m : Marks) → noneChecked (typed v k) m ≡ not (m .l3l4p)
+known v k m = rw (ip-known (eqb v 4)) (or-false (not (m .l3l4p)))
+
+-- a first test that decides nothing, since the second gives the same
+pub either-way : {v : Verdict} (b : Bool) → v ≡ cond b v v
+either-way true = refl
+either-way false = refl
+
+-- ---- rules
 
 -- a first rule that nothing is checked: its cause does not hold where the verdict is another
 pub first-fails : (b : Bool) (rs : List Rule) → decided (NotChecked if b ∷ rs) ≢ NotChecked → b ≡ false

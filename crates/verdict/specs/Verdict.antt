@@ -1,21 +1,21 @@
 -- Whether a packet's checksums may be believed (02, "Say whether the checksum may be believed"; Intel's Section 2.1.6.3).
 -- Assumes nothing.
 use Prim.Native.Nat.{ℕ}
-use mathlib.Core.Bool.{Bool, not, _&&_, _||_, cond}
+use mathlib.Core.Bool.{Bool, false, not, _&&_, _||_, cond}
 use mathlib.Core.List.{List, [], _∷_}
 use lib.Dec.{eqb}
-use Rattle.family.specs.declared.Family.the-variants.{Unknown}
+use Rattle.family.specs.declared.Family.the-variants.{Unknown, Ipv4, Ipv6}
 use Rattle.family.specs.Types.{familyNumber}
 use Rattle.packet_types.specs.declared.L4.{L4}
 use Rattle.packet_types.specs.declared.L4.the-variants.{None, Udp, Icmp}
 use Rattle.packet_types.specs.declared.Entry.{Entry}
-use Rattle.packet_types.specs.Table.{l4Number}
+use Rattle.packet_types.specs.Table.{told, l4Number}
 use Rattle.verdict.specs.declared.Verdict.{Verdict}
 use Rattle.verdict.specs.declared.Verdict.the-variants.{NotChecked, Good, Bad}
 use Rattle.verdict.specs.declared.Marks.{Marks}
 
 infix 68 _if_
--- a number for each verdict; the papers give them none
+-- a number for each verdict, 0 for not checked
 abbrev pub verdictNumber : Verdict → ℕ
 verdictNumber NotChecked = 0
 verdictNumber Good = 1
@@ -53,6 +53,7 @@ module _ (e : Entry) (m : Marks) where
   abbrev noUdpChecksum : Bool
   noUdpChecksum = isKind Udp e && m .«int_udp_0»
 
+  -- L3: for IPv4 types only
   abbrev pub l3Rules : List Rule
   l3Rules =
       NotChecked if noneChecked
@@ -60,10 +61,11 @@ module _ (e : Entry) (m : Marks) where
       ∷ Bad if m .ipe
       ∷ []
 
+  -- L4: not for ICMP, without an L4 kind or for a fragment, nor for UDP of IPv4 with INT_UDP_0; of IPv6 that is bad, and this comes before IPV6EXADD
   abbrev pub l4Rules : List Rule
   l4Rules =
       NotChecked if noneChecked
-      ∷ NotChecked if (e .fragment || isKind Icmp e || isKind None e)
+      ∷ NotChecked if (isKind Icmp e || isKind None e || e .fragment)
       ∷ NotChecked if (noUdpChecksum && isVersion 4 e)
       ∷ Bad if (noUdpChecksum && isVersion 6 e)
       ∷ NotChecked if m .ipv6exadd
@@ -75,3 +77,7 @@ module _ (e : Entry) (m : Marks) where
 
   unfoldable pub l4Of : Verdict
   l4Of = decided l4Rules
+
+-- a known type of this IP version and this L4 kind that is no fragment
+abbrev pub typed : ℕ → L4 → Entry
+typed v k = told (cond (eqb v 4) Ipv4 Ipv6) v false k

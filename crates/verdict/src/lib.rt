@@ -1,9 +1,9 @@
 // Whether the checksums of a received packet may be believed: a verdict for L3 and one for L4, by its type and by what the device marked.
 ghost use mathlib.Core.Path.{_≡_};
-ghost use Rattle.verdict.specs.Verdict.{verdictNumber, noneChecked, l3Of, l4Of};
-use family::family_number;
-use packet_types::Entry;
-use packet_types::l4_number;
+ghost use Rattle.packet_types.specs.declared.L4.the-variants.{None};
+ghost use Rattle.verdict.specs.Verdict.{verdictNumber, decided, typed, l3Of, l4Of};
+ghost use Rattle.verdict.specs.Steps.{summedRules, unsummedRules};
+use packet_types::L4;
 
 // What is known of a checksum.
 pub enum Verdict {
@@ -21,15 +21,6 @@ pub struct Marks {
     pub l4e: bool,
 }
 
-// The numbers of what the rules name: a family, L4 kinds, IP versions.
-const UNKNOWN: u64 = 0;
-
-const NO_L4: u64 = 0;
-
-const UDP: u64 = 3;
-
-const ICMP: u64 = 4;
-
 const IPV4: u8 = 4;
 
 const IPV6: u8 = 6;
@@ -45,20 +36,13 @@ pub fn verdict_number(verdict: Verdict) -> u64
     }
 }
 
-// First of all: the device processed nothing, or nobody knows what.
-fn none_checked(entry: Entry, marks: Marks) -> bool
-    ensures { λ r. ⌜ r ≡ noneChecked entry marks ⌝ }
+// L3 of a packet of this IP version.
+pub fn l3_verdict(version: u8, marks: Marks) -> Verdict
+    ensures { λ r. ⌜ r ≡ l3Of (typed version None) marks ⌝ }
 {
-    let family = entry.family;
-    !marks.l3l4p | (family_number(family) == UNKNOWN)
-}
-
-pub fn l3_verdict(entry: Entry, marks: Marks) -> Verdict
-    ensures { λ r. ⌜ r ≡ l3Of entry marks ⌝ }
-{
-    if none_checked(entry, marks) {
+    if version != IPV4 {
         Verdict::NotChecked
-    } else if entry.version != IPV4 {
+    } else if !marks.l3l4p {
         Verdict::NotChecked
     } else if marks.ipe {
         Verdict::Bad
@@ -67,25 +51,52 @@ pub fn l3_verdict(entry: Entry, marks: Marks) -> Verdict
     }
 }
 
-pub fn l4_verdict(entry: Entry, marks: Marks) -> Verdict
-    ensures { λ r. ⌜ r ≡ l4Of entry marks ⌝ }
+// L4 of a kind whose checksum the device sums up, and that is there.
+fn summed(marks: Marks) -> Verdict
+    ensures { λ r. ⌜ r ≡ decided (summedRules marks) ⌝ }
 {
-    let l4 = entry.l4;
-    let kind = l4_number(l4);
-    let no_checksum = (kind == UDP) & marks.int_udp_0;
-    if none_checked(entry, marks) {
+    if !marks.l3l4p {
         Verdict::NotChecked
-    } else if entry.fragment | (kind == ICMP) | (kind == NO_L4) {
-        Verdict::NotChecked
-    } else if no_checksum & (entry.version == IPV4) {
-        Verdict::NotChecked
-    } else if no_checksum & (entry.version == IPV6) {
-        Verdict::Bad
     } else if marks.ipv6exadd {
         Verdict::NotChecked
     } else if marks.l4e {
         Verdict::Bad
     } else {
         Verdict::Good
+    }
+}
+
+// UDP without a checksum.
+fn unsummed(version: u8, marks: Marks) -> Verdict
+    ensures { λ r. ⌜ r ≡ decided (unsummedRules version marks) ⌝ }
+{
+    if !marks.l3l4p {
+        Verdict::NotChecked
+    } else if version == IPV4 {
+        Verdict::NotChecked
+    } else if version == IPV6 {
+        Verdict::Bad
+    } else {
+        summed(marks)
+    }
+}
+
+// L4 of a packet of this IP version and this kind. The kind is asked first: a match on it is what the compiler joins with the look-up of
+// the type.
+pub fn l4_verdict(version: u8, l4: L4, marks: Marks) -> Verdict
+    ensures { λ r. ⌜ r ≡ l4Of (typed version l4) marks ⌝ }
+{
+    match l4 {
+        L4::None => Verdict::NotChecked,
+        L4::Tcp => summed(marks),
+        L4::Sctp => summed(marks),
+        L4::Udp => {
+            if marks.int_udp_0 {
+                unsummed(version, marks)
+            } else {
+                summed(marks)
+            }
+        }
+        L4::Icmp => Verdict::NotChecked,
     }
 }

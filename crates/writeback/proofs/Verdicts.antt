@@ -1,29 +1,26 @@
 -- The verdicts of a write-back: given only where L3L4P is set and the type known, and all that is seen of the two error bits.
 -- Assumes nothing.
 use Prim.Native.Nat.{ℕ, _/_, _%_, _^_}
-use mathlib.Core.Path.{_≡_, refl, sym, ap, _∙_}
-use mathlib.Core.Logic.{_≢_, _⊎_, inl, inr, ⊎-elim}
-use mathlib.Core.Bool.{Bool, true, false, not}
-use mathlib.Core.List.{List, [], _∷_}
+use mathlib.Core.Path.{_≡_, _∙_}
+use mathlib.Core.Logic.{_≢_, ⊎-elim}
+use mathlib.Core.Bool.{Bool, true, false}
 use native.Mathlib.Nat.{mod-lt}
 use lib.Dec.{eqb}
 use lib.Pow.{pow-pos}
 use lib.ListN.{take, drop}
 use Rattle.field.specs.Field.{readAt}
 use Rattle.family.specs.declared.Family.the-variants.{Unknown}
-use Rattle.rules.proofs.Tests.{neither}
+use Rattle.family.specs.Types.{familyOf}
 use Rattle.places.specs.Places.{ptypePlace}
 use Rattle.places.specs.Words.{Words}
 use Rattle.packet_types.specs.Table.{entryOf}
 use Rattle.packet_types.proofs.Entries.{as-families}
-use Rattle.verdict.specs.declared.Verdict.{Verdict}
-use Rattle.verdict.specs.declared.Verdict.the-variants.{NotChecked}
-use Rattle.verdict.specs.Verdict.{_if_, noneChecked, l3Rules, l4Rules, l3Of, l4Of}
+use Rattle.verdict.specs.Verdict.{noneChecked, l3Rules, l4Rules, l3Of, l4Of}
 use Rattle.verdict.proofs.Rules.{first-fails, last-unseen, processed}
 use Rattle.writeback.specs.WriteBack.{writeBackOf, typeOf, marksOf}
-use Rattle.writeback.specs.Bits.{readsAt, made}
+use Rattle.writeback.specs.Bits.{made}
 use Rattle.writeback.specs.Verdicts.{OnlyProcessed, IpeUnseen, L4eUnseen}
-use Rattle.writeback.proofs.Bits.{read-is, own1}
+use Rattle.writeback.proofs.Bits.{own1}
 
 -- ---- the error bits
 
@@ -46,15 +43,14 @@ l4e-unseen x v e =
 -- ---- where L3L4P is set, and the type known
 
 -- the table's family of a type is 01's
-same-family : (x : Words) → typeOf x .family ≡ writeBackOf x .family
-unfolding writeBackOf
-same-family x = as-families (readAt ptypePlace (x .word1)) (mod-lt (x .word1 / 2 ^ 30) (pow-pos 8))
+pub same-family : (word1 : ℕ) → entryOf (readAt ptypePlace word1) .family ≡ familyOf (readAt ptypePlace word1)
+same-family word1 = as-families (readAt ptypePlace word1) (mod-lt (word1 / 2 ^ 30) (pow-pos 8))
 
 known : (x : Words) → noneChecked (typeOf x) (marksOf (x .word1)) ≡ false → (writeBackOf x .l3l4p ≡ true) × (writeBackOf x .family ≢ Unknown)
 unfolding writeBackOf
 known x e =
     let p = processed (typeOf x) (marksOf (x .word1)) e in
-    (p .0, λ u. p .1 (same-family x ∙ u))
+    (p .0, λ u. p .1 (same-family (x .word1) ∙ u))
 
 pub only-processed : OnlyProcessed
 unfolding writeBackOf l3Of l4Of

@@ -2,7 +2,6 @@
 ghost use mathlib.Core.Path.{_≡_};
 ghost use Rattle.writeback.specs.WriteBack.{tagOf, hashOf, marksOf, writeBackOf};
 use family::Family;
-use family::family_of;
 use type_match::entry_of;
 use verdict::Marks;
 use verdict::Verdict;
@@ -113,11 +112,12 @@ pub fn read(word0: u64, word1: u64) -> WriteBack
     let ptype = ((word1 >> PTYPE) % EIGHT_BITS) as u8;
     let tag = tag_of(word0, word1);
     let hash = hash_of(word0, word1);
-    let family = family_of(ptype);
     let entry = entry_of(ptype);
+    let family = entry.family;
+    let kind = entry.l4;
     let marks = marks_of(word1);
-    let l3 = l3_verdict(entry, marks);
-    let l4 = l4_verdict(entry, marks);
+    let l3 = l3_verdict(entry.version, marks);
+    let l4 = l4_verdict(entry.version, kind, marks);
     WriteBack {
         tag,
         hash,

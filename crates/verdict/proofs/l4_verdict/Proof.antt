@@ -1,55 +1,83 @@
--- `l4_verdict` meets its contract: its tests are the causes of the rules, in their order.
+-- `l4_verdict` meets its contract, kind by kind.
 -- Assumes nothing.
-use mathlib.Core.Path.{sym, _∙_}
+use Rattle.packet_types.specs.declared.L4.the-variants.{None, Tcp, Sctp, Udp}
+use Rattle.verdict.specs.Verdict.{noneChecked, typed, l4Of}
+use Rattle.verdict.proofs.Rules.{known, either-way}
 use borrow.Author.Needs.{needs}
-use Rattle.verdict.specs.Verdict.{l4Of}
 use Rattle.verdict.proofs.l4_verdict.Statement.{statement}
 use Rattle.verdict.proofs.l4_verdict.Tie as tie
 
-l4-number-requires : tie.Need-l4-number-requires
-l4-number-requires c κs = search needs
+enum-told : tie.Need-enum-told
+enum-told c = search needs
 
-none-checked-requires : tie.Need-none-checked-requires
-none-checked-requires c κs = search needs
+enum-told-2 : tie.Need-enum-told-2
+enum-told-2 c = search needs
+
+summed-requires : tie.Need-summed-requires
+summed-requires c κs = search needs
+
+enum-told-3 : tie.Need-enum-told-3
+enum-told-3 c = search needs
+
+summed-requires-2 : tie.Need-summed-requires-2
+summed-requires-2 c κs = search needs
+
+enum-told-4 : tie.Need-enum-told-4
+enum-told-4 c = search needs
+
+unsummed-requires : tie.Need-unsummed-requires
+unsummed-requires c κs = search needs
+
+summed-requires-3 : tie.Need-summed-requires-3
+summed-requires-3 c κs = search needs
+
+enum-told-5 : tie.Need-enum-told-5
+enum-told-5 c = search needs
 
 returns : tie.Need-returns
 unfolding l4Of
-returns c = rw (sym (c .before .none-checked .ensures) ∙ c .if1 .taken)
+returns c =
+    let a = c .before .before .args in
+    rw (c .enum-told .given .1) (either-way (noneChecked (typed (a .version) None) (a .marks)))
 
 returns-2 : tie.Need-returns-2
 unfolding l4Of
-returns-2 c = rw (sym (c .before .before .before .none-checked .ensures) ∙ c .before .before .if1 .left, sym (c .before .before .before .before .before .l4-number .ensures), c .if2 .taken)
+returns-2 c = rw (c .before .enum-told2 .given .1, c .summed .ensures, known (c .before .before .before .args .version) Tcp (c .before .before .before .args .marks))
 
 returns-3 : tie.Need-returns-3
 unfolding l4Of
-returns-3 c = rw (sym (c .before .before .before .before .before .none-checked .ensures) ∙ c .before .before .before .before .if1 .left, sym (c .before .before .before .before .before .before .before .l4-number .ensures), c .before .before .if2 .left, c .if3 .taken)
+returns-3 c = rw (c .before .enum-told3 .given .1, c .summed2 .ensures, known (c .before .before .before .args .version) Sctp (c .before .before .before .args .marks))
 
 returns-4 : tie.Need-returns-4
 unfolding l4Of
-returns-4 c = rw (sym (c .before .before .before .before .before .before .before .none-checked .ensures) ∙ c .before .before .before .before .before .before .if1 .left, sym (c .before .before .before .before .before .before .before .before .before .l4-number .ensures), c .before .before .before .before .if2 .left, c .before .before .if3 .left, c .if4 .taken)
+returns-4 c = rw (c .before .before .enum-told4 .given .1, c .before .if1 .taken, c .unsummed .ensures, known (c .before .before .before .before .args .version) Udp (c .before .before .before .before .args .marks))
 
 returns-5 : tie.Need-returns-5
 unfolding l4Of
-returns-5 c = rw (sym (c .before .before .before .before .before .before .before .before .none-checked .ensures) ∙ c .before .before .before .before .before .before .before .if1 .left, sym (c .before .before .before .before .before .before .before .before .before .before .l4-number .ensures), c .before .before .before .before .before .if2 .left, c .before .before .before .if3 .left, c .before .if4 .left, c .if5 .taken)
+returns-5 c = rw (c .before .before .enum-told4 .given .1, c .before .if1 .left, c .summed3 .ensures, known (c .before .before .before .before .args .version) Udp (c .before .before .before .before .args .marks))
 
 returns-6 : tie.Need-returns-6
 unfolding l4Of
-returns-6 c = rw (sym (c .before .before .before .before .before .before .before .before .before .none-checked .ensures) ∙ c .before .before .before .before .before .before .before .before .if1 .left, sym (c .before .before .before .before .before .before .before .before .before .before .before .l4-number .ensures), c .before .before .before .before .before .before .if2 .left, c .before .before .before .before .if3 .left, c .before .before .if4 .left, c .before .if5 .left, c .if6 .taken)
-
-returns-7 : tie.Need-returns-7
-unfolding l4Of
-returns-7 c = rw (sym (c .before .before .before .before .before .before .before .before .before .none-checked .ensures) ∙ c .before .before .before .before .before .before .before .before .if1 .left, sym (c .before .before .before .before .before .before .before .before .before .before .before .l4-number .ensures), c .before .before .before .before .before .before .if2 .left, c .before .before .before .before .if3 .left, c .before .before .if4 .left, c .before .if5 .left, c .if6 .left)
+returns-6 c =
+    let a = c .before .before .args in
+    rw (c .enum-told5 .given .1) (either-way (noneChecked (typed (a .version) None) (a .marks)))
 
 pub l4-verdict-spec : {M : Type 1} → statement M
 l4-verdict-spec =
     tie.close
     (tie.spec
-    l4-number-requires
-    none-checked-requires
+    enum-told
+    enum-told-2
+    summed-requires
+    enum-told-3
+    summed-requires-2
+    enum-told-4
+    unsummed-requires
+    summed-requires-3
+    enum-told-5
     returns
     returns-2
     returns-3
     returns-4
     returns-5
-    returns-6
-    returns-7)
+    returns-6)

@@ -1,6 +1,10 @@
 -- `read` meets its contract: each field is a quotient's remainder, but for the verdicts, which go by some of them.
 -- Assumes nothing.
-use Rattle.writeback.specs.WriteBack.{writeBackOf}
+use Rattle.field.specs.Field.{readAt}
+use Rattle.places.specs.Places.{ptypePlace}
+use Rattle.verdict.proofs.Types.{l3-typed, l4-typed}
+use Rattle.writeback.specs.WriteBack.{marksOf, writeBackOf}
+use Rattle.writeback.proofs.Verdicts.{same-family}
 use borrow.Author.Needs.{needs}
 use Rattle.writeback.proofs.read.Statement.{statement}
 use Rattle.writeback.proofs.read.Tie as tie
@@ -13,9 +17,6 @@ tag-of-requires c κs = search needs
 
 hash-of-requires : tie.Need-hash-of-requires
 hash-of-requires c κs = search needs
-
-family-of-requires : tie.Need-family-of-requires
-family-of-requires c κs = search needs
 
 entry-of-requires : tie.Need-entry-of-requires
 entry-of-requires c κs = search needs
@@ -35,11 +36,11 @@ dd-requires c κs = search needs
 eop-requires : tie.Need-eop-requires
 eop-requires c κs = search needs
 
-cast-t21 : tie.Need-cast-t21
-cast-t21 c = search needs
+cast-t22 : tie.Need-cast-t22
+cast-t22 c = search needs
 
-cast-t24 : tie.Need-cast-t24
-cast-t24 c = search needs
+cast-t25 : tie.Need-cast-t25
+cast-t25 c = search needs
 
 length-requires : tie.Need-length-requires
 length-requires c κs = search needs
@@ -47,10 +48,10 @@ length-requires c κs = search needs
 returns : tie.Need-returns
 unfolding writeBackOf
 returns c =
+    let w = c .before .before .before .before .before .before .before .before .before .args .word1 in
     rw (
-      c .before .before .before .before .before .before .before .before .before .tag-of .ensures,
-      c .before .before .before .before .before .before .before .before .hash-of .ensures,
-      c .before .before .before .before .before .before .before .family-of .ensures,
+      c .before .before .before .before .before .before .before .before .tag-of .ensures,
+      c .before .before .before .before .before .before .before .hash-of .ensures,
       c .before .before .before .l4-verdict .ensures,
       c .before .before .before .before .l3-verdict .ensures,
       c .before .before .before .before .before .marks-of .ensures,
@@ -58,6 +59,9 @@ returns c =
       c .before .before .dd .ensures,
       c .before .eop .ensures,
       c .length .ensures,
+      l3-typed (marksOf w) (readAt ptypePlace w),
+      l4-typed (marksOf w) (readAt ptypePlace w),
+      same-family w,
     )
 
 pub read-spec : {M : Type 1} → statement M
@@ -67,14 +71,13 @@ read-spec =
     cast-ptype
     tag-of-requires
     hash-of-requires
-    family-of-requires
     entry-of-requires
     marks-of-requires
     l3-verdict-requires
     l4-verdict-requires
     dd-requires
     eop-requires
-    cast-t21
-    cast-t24
+    cast-t22
+    cast-t25
     length-requires
     returns)
