@@ -19,7 +19,14 @@ OnlyProcessed = (x : Words) → (writeBackOf x .l3 ≢ NotChecked) ⊎ (writeBac
 abbrev pub having : Line → ℕ → Words → Words
 having l v x = record { word0 = x .word0; word1 = replaced (l 0 .at) (l 0 .width) v (x .word1) }
 
--- the two raw bits are seen through the verdicts alone: words that differ in IPE alone have the same read unless L3 is checked, in L4E alike
+-- the two raw bits are seen through the verdicts alone: words that differ in IPE alone and have the same verdict for L3 have the same read; L4E and L4 alike
+abbrev pub IpeThroughL3 : Type 0
+IpeThroughL3 = (x : Words) (v : ℕ) → writeBackOf (having ipePlace v x) .l3 ≡ writeBackOf x .l3 → writeBackOf (having ipePlace v x) ≡ writeBackOf x
+
+abbrev pub L4eThroughL4 : Type 0
+L4eThroughL4 = (x : Words) (v : ℕ) → writeBackOf (having l4ePlace v x) .l4 ≡ writeBackOf x .l4 → writeBackOf (having l4ePlace v x) ≡ writeBackOf x
+
+-- so have all words that differ in IPE alone, unless L3 is checked; in L4E alike
 abbrev pub IpeUnseen : Type 0
 IpeUnseen = (x : Words) (v : ℕ) → writeBackOf x .l3 ≡ NotChecked → writeBackOf (having ipePlace v x) ≡ writeBackOf x
 

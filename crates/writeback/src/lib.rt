@@ -8,7 +8,7 @@ use verdict::Verdict;
 use verdict::l3_verdict;
 use verdict::l4_verdict;
 
-// The fields of a write-back. A tag or a hash that is not there reads as 0.
+// The fields of a write-back. A tag or a hash that is not there reads as 0; the two error bits of checksums are handed up as verdicts.
 pub struct WriteBack {
     pub tag: u16,
     pub hash: u32,
