@@ -81,8 +81,8 @@ fn unsummed(version: u8, marks: Marks) -> Verdict
     }
 }
 
-// L4 of a packet of this IP version and this kind. The kind is asked first: a match on it is what the compiler joins with the look-up of
-// the type.
+// L4 of a packet of this IP version and this kind. The kind is asked first: where the compiler inlines the look-up of the type, it joins
+// a match on the kind with it.
 pub fn l4_verdict(version: u8, l4: L4, marks: Marks) -> Verdict
     ensures { λ r. ⌜ r ≡ l4Of (typed version l4) marks ⌝ }
 {
