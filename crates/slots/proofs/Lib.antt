@@ -1,4 +1,5 @@
 pub mod Steps
 pub mod Stores
+pub mod Pieces
 pub mod Runs
 pub mod Rows

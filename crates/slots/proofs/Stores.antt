@@ -13,12 +13,12 @@ use Rattle.slots.specs.Memory.{storeFrom, readFrom, store, numbersAt}
 
 -- ---- numbers one after another
 
-length-from : (m : List ℕ) (i : ℕ) (xs : List ℕ) → length (storeFrom m i xs) ≡ length m
+pub length-from : (m : List ℕ) (i : ℕ) (xs : List ℕ) → length (storeFrom m i xs) ≡ length m
 length-from m i [] = refl
 length-from m i (x ∷ xs) = length-from (set m i x) (i + 1) xs ∙ length-set m i x
 
 -- place j is none of the n places from i on
-abbrev Clear : ℕ → ℕ → ℕ → Type 0
+abbrev pub Clear : ℕ → ℕ → ℕ → Type 0
 Clear i n j = (j < i) ⊎ (i + n ≤ j)
 
 -- one place less, and the first
@@ -29,13 +29,13 @@ clear-first : (i n j : ℕ) → Clear i (suc n) j → j ≢ i
 clear-first i n j c e = ⊎-elim (λ h. omega arith) (λ h. omega arith) c
 
 -- a place that is not stored to stays
-store-other : (m : List ℕ) (i : ℕ) (xs : List ℕ) (j : ℕ) → Clear i (length xs) j → getD (storeFrom m i xs) j 0 ≡ getD m j 0
+pub store-other : (m : List ℕ) (i : ℕ) (xs : List ℕ) (j : ℕ) → Clear i (length xs) j → getD (storeFrom m i xs) j 0 ≡ getD m j 0
 store-other m i [] j c = refl
 store-other m i (x ∷ xs) j c =
     store-other (set m i x) (i + 1) xs j (clear-next i (length xs) j c) ∙ getD-set-other m i j x 0 (clear-first i (length xs) j c)
 
 -- one that is has what was stored
-store-here : (m : List ℕ) (i : ℕ) (xs : List ℕ) (k : ℕ) → k < length xs → i + length xs ≤ length m → getD (storeFrom m i xs) (i + k) 0 ≡ getD xs k 0
+pub store-here : (m : List ℕ) (i : ℕ) (xs : List ℕ) (k : ℕ) → k < length xs → i + length xs ≤ length m → getD (storeFrom m i xs) (i + k) 0 ≡ getD xs k 0
 store-here m i [] k h l = absurd (omega arith)
 store-here m i (x ∷ xs) zero h l =
     rw add-zero (store-other (set m i x) (i + 1) xs i (inl (omega arith)) ∙ getD-set-same m i x 0 (omega arith))
@@ -43,18 +43,18 @@ store-here m i (x ∷ xs) (suc k) h l =
     ap (λ (j : ℕ). getD (storeFrom (set m i x) (i + 1) xs) j 0) {x = i + suc k} {y = i + 1 + k} (omega arith)
     ∙ store-here (set m i x) (i + 1) xs k (omega arith) (rw length-set (omega arith))
 
-length-read : (m : List ℕ) (i n : ℕ) → length (readFrom m i n) ≡ n
+pub length-read : (m : List ℕ) (i n : ℕ) → length (readFrom m i n) ≡ n
 length-read m i zero = refl
 length-read m i (suc n) = ap suc (length-read m (i + 1) n)
 
-getD-read : (m : List ℕ) (i n k : ℕ) → k < n → getD (readFrom m i n) k 0 ≡ getD m (i + k) 0
+pub getD-read : (m : List ℕ) (i n k : ℕ) → k < n → getD (readFrom m i n) k 0 ≡ getD m (i + k) 0
 getD-read m i zero k h = absurd (omega arith)
 getD-read m i (suc n) zero h = rw add-zero
 getD-read m i (suc n) (suc k) h =
     getD-read m (i + 1) n k (omega arith) ∙ ap (λ (j : ℕ). getD m j 0) {x = i + 1 + k} {y = i + suc k} (omega arith)
 
 -- two memories that agree on the places read
-read-agree : (m m′ : List ℕ) (i n : ℕ) → ((k : ℕ) → k < n → getD m (i + k) 0 ≡ getD m′ (i + k) 0) → readFrom m i n ≡ readFrom m′ i n
+pub read-agree : (m m′ : List ℕ) (i n : ℕ) → ((k : ℕ) → k < n → getD m (i + k) 0 ≡ getD m′ (i + k) 0) → readFrom m i n ≡ readFrom m′ i n
 read-agree m m′ i n h =
     ext-getD 0 _ _ (length-read m i n ∙ sym (length-read m′ i n))
     (λ k l. let b : k < n = rw length-read at l in getD-read m i n k b ∙ h k b ∙ sym (getD-read m′ i n k b))

@@ -1,0 +1,4 @@
+pub mod Ring
+pub mod Look
+pub mod Posting
+pub mod Steps

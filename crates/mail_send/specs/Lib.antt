@@ -1,0 +1,3 @@
+pub mod Sending
+pub mod Calls
+pub mod Back
