@@ -1,5 +1,7 @@
-// Both queues, the calls that the lines of a script ask for, and their answers. A part of the program `probe`: what it prints is compared.
+// Both queues and the mailbox, the calls that the lines of a script ask for, and their answers. A part of the program `probe`: what it
+// prints is compared.
 mod interrupts;
+pub mod mail;
 pub mod printing;
 mod types;
 
@@ -39,12 +41,7 @@ fn other_line(command: Command, given: Given) -> Row {
     }
 }
 
-// The row that has numbers; at most one of two has.
-fn either(a: Row, b: Row) -> Row {
-    if 0 < a.count { a } else { b }
-}
-
-// What a line says: at most one of the three has an answer.
+// What a line says to the queues, or to none: at most one of the three has an answer.
 pub fn call(
     said: Said,
     bench: Bench,
@@ -69,6 +66,6 @@ pub fn call(
     Bench {
         rx,
         tx,
-        row: either(either(received, passed), other_line(command, given)),
+        row: received.or(passed).or(other_line(command, given)),
     }
 }

@@ -1,19 +1,20 @@
 -- A command is found by the number of its word: words of the same number are the same. Assumes nothing.
 use Prim.Native.Nat.{ℕ, zero, suc, _+_, _*_, _^_, _≤_, _<_}
 use mathlib.Core.Path.{_≡_, refl, ap, sym, _∙_}
-use mathlib.Core.Bool.{Bool, true, false, _&&_, cond}
+use mathlib.Core.Bool.{Bool, true, false, _&&_, false≢true}
 use mathlib.Core.List.{List, [], _∷_}
 use native.Mathlib.Omega.{arith}
 use native.Mathlib.Nat.{pow-suc, pow-le-pow-right}
 use native.Mathlib.Decide.{decLt}
-use borrow.Author.Tests.{ltb-true, le-ltb, eqb-true}
-use lib.Dec.{ltb, eqb, lit<}
+use borrow.Author.Tests.{ltb-true, le-ltb, leb-true, eq-eqb, ne-eqb, eqb-true}
+use lib.Dec.{ltb, leb, eqb, lit<}
 use lib.ListN.{length, getD}
 use lib.Seq.{ext-getD}
-use Rattle.command.specs.Commands.{Entry, commands, same, namedBy, commandOf, keyTo, keyOf}
+use Rattle.rules.specs.Rules.{listedAt}
+use Rattle.rules.proofs.Tests.{both, same as same-tests}
+use Rattle.command.specs.Commands.{Entry, queueWords, mailWords, same, namedBy, commandOf, keyTo, keyOf, numbered, mailKeyed, keyed}
+use Rattle.command.specs.declared.Command.{Command}
 use Rattle.command.specs.declared.Command.the-variants.{Unknown}
-use Rattle.rules.proofs.Tests.{both}
-use Rattle.rules.proofs.Matches.{Others, Rest, others}
 
 module _ (w : List ℕ) (byte : (i : ℕ) → getD w i 0 < 256) where
   pub key-some : (k : ℕ) → 1 ≤ keyTo w k
@@ -56,20 +57,19 @@ module _ (v w : List ℕ) (byte-v : (i : ℕ) → getD v i 0 < 256) (byte-w : (i
           let a = alike (length v) (length w) (sym (rw (q, short) at e)) in
           sym (ext-getD 0 v w (a .count) (a .bytes))
 
--- a word of the table
-abbrev pub plain : List ℕ → Bool
+-- a word of the table has bytes, and at most seven
+abbrev plain : List ℕ → Bool
 plain [] = true
 plain (b ∷ bs) = ltb b 256 && plain bs
+
+abbrev fit : List Entry → Bool
+fit [] = true
+fit (e ∷ es) = (plain (e .word) && leb (length (e .word)) 7) && fit es
 
 plain-bytes : (v : List ℕ) → plain v ≡ true → (i : ℕ) → getD v i 0 < 256
 plain-bytes [] p i = omega arith
 plain-bytes (b ∷ bs) p zero = ltb-true b 256 (both (ltb b 256) (plain bs) p .0)
 plain-bytes (b ∷ bs) p (suc i) = plain-bytes bs (both (ltb b 256) (plain bs) p .1) i
-
-module _ (w : List ℕ) (byte : (i : ℕ) → getD w i 0 < 256) where
-  -- a word with the number of one of the table names what that one names
-  pub found : (v : List ℕ) → plain v ≡ true → length v ≤ 7 → keyOf w ≡ keyOf v → commandOf w ≡ commandOf v
-  found v p h e = ap commandOf (same-key v w (plain-bytes v p) byte h e)
 
 same-true : (v w : List ℕ) → same v w ≡ true → v ≡ w
 same-true [] [] h = refl
@@ -77,20 +77,27 @@ same-true [] (y ∷ ys) h = absurd (let z : _≡_ {A = ℕ} 0 1 = cc in omega ar
 same-true (x ∷ xs) [] h = absurd (let z : _≡_ {A = ℕ} 0 1 = cc in omega arith)
 same-true (x ∷ xs) (y ∷ ys) h = rw (eqb-true x y (both (eqb x y) (same xs ys) h .0), same-true xs ys (both (eqb x y) (same xs ys) h .1))
 
--- the numbers of words
-abbrev pub keys : List Entry → List ℕ
-keys [] = []
-keys (e ∷ es) = keyOf (e .word) ∷ keys es
+same-self : (v : List ℕ) → same v v ≡ true
+same-self [] = refl
+same-self (x ∷ xs) = rw (eq-eqb x x refl) (same-self xs)
 
-missed : (es : List Entry) (w : List ℕ) → Others (keyOf w) (keys es) → namedBy es w ≡ Unknown
-missed [] w o = refl
-missed (e ∷ es) w o = go (same (e .word) w) refl (missed es w (o .1))
-  where
-    go : (t : Bool) → same (e .word) w ≡ t → namedBy es w ≡ Unknown → cond (same (e .word) w) (e .names) (namedBy es w) ≡ Unknown
-    go true q ih = absurd (o .0 (ap keyOf (sym (same-true (e .word) w q))))
-    go false q ih = rw q ih
+module _ (w : List ℕ) (byte : (i : ℕ) → getD w i 0 < 256) where
+  -- a word is one of the table exactly if its number is that one's
+  by-number : (v : List ℕ) → (plain v && leb (length v) 7) ≡ true → same v w ≡ eqb (keyOf w) (keyOf v)
+  by-number v p =
+      let b = both (plain v) (leb (length v) 7) p in
+      same-tests (same v w) (eqb (keyOf w) (keyOf v))
+      (λ e. eq-eqb (keyOf w) (keyOf v) (ap keyOf (sym (same-true v w e))))
+      (λ e. ne-eqb (keyOf w) (keyOf v) (λ h. false≢true (sym e ∙ (ap (same v) (same-key v w (plain-bytes v (b .0)) byte (leb-true (length v) 7 (b .1)) h) ∙ same-self v))))
 
--- a word whose number no arm of the match has
-pub unknown : (w : List ℕ) → Rest (keyOf w) (keys commands) (Unit {0}) → commandOf w ≡ Unknown
-unfolding commandOf
-unknown w r = missed commands w (others (keyOf w) (keys commands) (Unit {0}) r .1)
+  -- so the table by its words is the table by their numbers
+  found : (es : List Entry) (other : Command) → fit es ≡ true → namedBy es other w ≡ listedAt (numbered es) other (keyOf w)
+  found [] other p = refl
+  found (e ∷ es) other p =
+      let b = both (plain (e .word) && leb (length (e .word)) 7) (fit es) p in
+      rw (by-number (e .word) (b .0), found es other (b .1))
+
+  -- and so of both tables
+  pub by-key : commandOf w ≡ keyed (keyOf w)
+  unfolding commandOf keyed mailKeyed
+  by-key = rw (found queueWords (namedBy mailWords Unknown w) refl, found mailWords Unknown refl)

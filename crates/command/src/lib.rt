@@ -1,6 +1,6 @@
 // The command words.
 ghost use mathlib.Core.Path.{_≡_};
-ghost use Rattle.command.specs.Commands.{commandOf, keyOf};
+ghost use Rattle.command.specs.Commands.{commandOf, keyOf, mailKeyed, keyed};
 
 pub enum Command {
     Unknown,
@@ -27,6 +27,26 @@ pub enum Command {
     TxSum,
     Int,
     Ptype,
+    Mtx,
+    Mrx,
+    MtxSet,
+    MrxSet,
+    MtxPoke,
+    MrxPoke,
+    Mbuf,
+    MtxList,
+    MrxList,
+    Msend,
+    Mshut,
+    Mdone,
+    Mpost,
+    Mread,
+    MtxTail,
+    MtxReg,
+    MrxTail,
+    MrxReg,
+    MtxSum,
+    MrxSum,
 }
 
 // The longest of the words.
@@ -49,11 +69,40 @@ fn key_of(word: &[u8]) -> u64
     key
 }
 
-// The command that a word names.
-pub fn command_of(word: &[u8]) -> Command
-    ensures { λ r. ⌜ r ≡ commandOf (now (word .entry)) ⌝ }
+// The command of the mailbox whose word has a number.
+fn mail_keyed(key: u64) -> Command
+    ensures { λ r. ⌜ r ≡ mailKeyed key ⌝ }
 {
-    match key_of(word) {
+    match key {
+        0x1_6d_74_78 => Command::Mtx,
+        0x1_6d_72_78 => Command::Mrx,
+        0x1_6d_74_78_73_65_74 => Command::MtxSet,
+        0x1_6d_72_78_73_65_74 => Command::MrxSet,
+        0x1_6d_74_78_70_6f_6b_65 => Command::MtxPoke,
+        0x1_6d_72_78_70_6f_6b_65 => Command::MrxPoke,
+        0x1_6d_62_75_66 => Command::Mbuf,
+        0x1_6d_74_78_6c_69_73_74 => Command::MtxList,
+        0x1_6d_72_78_6c_69_73_74 => Command::MrxList,
+        0x1_6d_73_65_6e_64 => Command::Msend,
+        0x1_6d_73_68_75_74 => Command::Mshut,
+        0x1_6d_64_6f_6e_65 => Command::Mdone,
+        0x1_6d_70_6f_73_74 => Command::Mpost,
+        0x1_6d_72_65_61_64 => Command::Mread,
+        0x1_6d_74_78_74_61_69_6c => Command::MtxTail,
+        0x1_6d_74_78_72_65_67 => Command::MtxReg,
+        0x1_6d_72_78_74_61_69_6c => Command::MrxTail,
+        0x1_6d_72_78_72_65_67 => Command::MrxReg,
+        0x1_6d_74_78_73_75_6d => Command::MtxSum,
+        0x1_6d_72_78_73_75_6d => Command::MrxSum,
+        _ => Command::Unknown,
+    }
+}
+
+// The command whose word has a number.
+fn keyed(key: u64) -> Command
+    ensures { λ r. ⌜ r ≡ keyed key ⌝ }
+{
+    match key {
         0x1_72_78 => Command::Rx,
         0x1_72_78_73_65_74 => Command::RxSet,
         0x1_72_78_70_6f_6b_65 => Command::RxPoke,
@@ -77,6 +126,13 @@ pub fn command_of(word: &[u8]) -> Command
         0x1_74_78_73_75_6d => Command::TxSum,
         0x1_69_6e_74 => Command::Int,
         0x1_70_74_79_70_65 => Command::Ptype,
-        _ => Command::Unknown,
+        _ => mail_keyed(key),
     }
+}
+
+// The command that a word names.
+pub fn command_of(word: &[u8]) -> Command
+    ensures { λ r. ⌜ r ≡ commandOf (now (word .entry)) ⌝ }
+{
+    keyed(key_of(word))
 }

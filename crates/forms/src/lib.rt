@@ -1,5 +1,7 @@
 // The forms of a line: how many numbers stand behind a command, and which are in range. A part of the program `probe`: what it prints is
 // compared.
+mod mail;
+
 use command::Command;
 use command::command_of;
 use feed::Line;
@@ -55,7 +57,7 @@ fn count_of(command: Command, given: Given) -> u64 {
         Command::Send => pieces_end(given.n11, given.n12),
         Command::Int => 8,
         Command::Ptype => 1,
-        _ => 0,
+        _ => mail::count_of(command),
     }
 }
 
@@ -92,7 +94,7 @@ fn in_range(command: Command, given: Given) -> bool {
         Command::Send => is_send(given),
         Command::Int => is_int(given),
         Command::Ptype => given.n0 <= MOST_PTYPE,
-        _ => true,
+        _ => mail::in_range(command, given),
     }
 }
 

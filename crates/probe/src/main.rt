@@ -1,14 +1,18 @@
-// The script bench: reads a script on standard input, makes its calls on queues held in memory, and
-// prints one line a call.
+// The script bench: reads a script on standard input, makes its calls on queues and a mailbox held in
+// memory, and prints one line a call.
 mod printing;
 mod reading;
 
 use calls::Bench;
+use calls::mail::Mail;
 use calls::printing::PRINTED;
 use feed::Line;
 use forms::Said;
 use reading::Reading;
 use reading::TEXT;
+use script::ELEMENTS;
+use script::MAIL_BUFFER;
+use script::MAIL_RING;
 use script::NUMBERS;
 use script::OUT;
 use script::RING;
@@ -25,6 +29,7 @@ struct Heard {
 struct State {
     reading: Reading,
     bench: Bench,
+    mail: Mail,
     next: usize,
 }
 
@@ -32,6 +37,7 @@ fn start() -> State {
     State {
         reading: reading::start(),
         bench: calls::start(),
+        mail: calls::mail::start(),
         next: 0,
     }
 }
@@ -56,16 +62,25 @@ fn listen(
     }
 }
 
-// Prints what a line is answered.
-fn reply(heard: Heard, bench: Bench, text: &[u8; TEXT], out: &mut [u8; PRINTED]) -> State {
+// Prints what a line is answered: at most one of the two has an answer.
+fn reply(
+    heard: Heard,
+    bench: Bench,
+    mail: Mail,
+    text: &[u8; TEXT],
+    out: &mut [u8; PRINTED],
+) -> State {
     let said = heard.said;
     let line = heard.line;
     let reading = heard.reading;
     let row = bench.row;
+    let mailed = mail.row;
+    let row = row.or(mailed);
     let next = calls::printing::print(line, said.bad, reading.number, row, text, out, heard.next);
     State {
         reading,
         bench,
+        mail,
         next,
     }
 }
@@ -81,11 +96,17 @@ fn step(
     tx_ring: &mut [u64; RING],
     tokens: &mut [u64; SLOTS],
     counts: &mut [u16; SLOTS],
+    mrx_ring: &mut [u8; MAIL_RING],
+    mrx_list: &mut [u32; ELEMENTS],
+    mtx_ring: &mut [u8; MAIL_RING],
+    mtx_list: &mut [u32; ELEMENTS],
+    mbuf: &mut [u8; MAIL_BUFFER],
     out: &mut [u8; PRINTED],
 ) -> State {
     let heard = listen(state, text, numbers, out);
     let said = heard.said;
     let bench = state.bench;
+    let mail = state.mail;
     let bench = calls::call(
         said,
         bench,
@@ -97,7 +118,8 @@ fn step(
         tokens,
         counts,
     );
-    reply(heard, bench, text, out)
+    let mail = calls::mail::call(said, mail, mrx_ring, mrx_list, mtx_ring, mtx_list, mbuf);
+    reply(heard, bench, mail, text, out)
 }
 
 // A proved loop has to end, and nothing says that the input does. So the loop counts its steps
@@ -111,6 +133,11 @@ fn run(
     tx_ring: &mut [u64; RING],
     tokens: &mut [u64; SLOTS],
     counts: &mut [u16; SLOTS],
+    mrx_ring: &mut [u8; MAIL_RING],
+    mrx_list: &mut [u32; ELEMENTS],
+    mtx_ring: &mut [u8; MAIL_RING],
+    mtx_list: &mut [u32; ELEMENTS],
+    mbuf: &mut [u8; MAIL_BUFFER],
     out: &mut [u8; PRINTED],
 ) {
     let mut state = start();
@@ -126,6 +153,11 @@ fn run(
             tx_ring,
             tokens,
             counts,
+            mrx_ring,
+            mrx_list,
+            mtx_ring,
+            mtx_list,
+            mbuf,
             out,
         );
         steps -= 1;
@@ -142,6 +174,11 @@ fn main() {
     let mut tx_ring = [0u64; RING];
     let mut tokens = [0u64; SLOTS];
     let mut counts = [0u16; SLOTS];
+    let mut mrx_ring = [0u8; MAIL_RING];
+    let mut mrx_list = [0u32; ELEMENTS];
+    let mut mtx_ring = [0u8; MAIL_RING];
+    let mut mtx_list = [0u32; ELEMENTS];
+    let mut mbuf = [0u8; MAIL_BUFFER];
     let mut out = [0u8; PRINTED];
     run(
         &mut text,
@@ -152,6 +189,11 @@ fn main() {
         &mut tx_ring,
         &mut tokens,
         &mut counts,
+        &mut mrx_ring,
+        &mut mrx_list,
+        &mut mtx_ring,
+        &mut mtx_list,
+        &mut mbuf,
         &mut out,
     );
 }

@@ -11,6 +11,13 @@ pub const RING: usize = 2 * SLOTS;
 // The burst's list, in numbers: more than a burst wants, so that a wrong length can be lent.
 pub const OUT: usize = 128;
 
+// Each ring of the mailbox, in elements, and in its bytes; and the buffer, in bytes.
+pub const ELEMENTS: usize = 1024;
+
+pub const MAIL_RING: usize = 32 * ELEMENTS;
+
+pub const MAIL_BUFFER: usize = 8192;
+
 // How many numbers of a send stand before its addresses.
 pub const GIVEN: usize = 13;
 
@@ -64,6 +71,11 @@ impl Row {
             i += 1;
         }
         Row { values, count }
+    }
+
+    // The row that has numbers; at most one of two has.
+    pub fn or(self, other: Row) -> Row {
+        if 0 < self.count { self } else { other }
     }
 }
 
@@ -120,9 +132,37 @@ pub fn lent_counts(memory: &[u16], n: usize) -> usize
     if n < memory.len() { n } else { memory.len() }
 }
 
+// Of bytes.
+pub fn lent_bytes(memory: &[u8], n: usize) -> usize
+    ensures { λ r. ⌜ Lent r (now (memory .entry)) ⌝ }
+{
+    if n < memory.len() { n } else { memory.len() }
+}
+
+// And of 32-bit numbers.
+pub fn lent_words(memory: &[u32], n: usize) -> usize
+    ensures { λ r. ⌜ Lent r (now (memory .entry)) ⌝ }
+{
+    if n < memory.len() { n } else { memory.len() }
+}
+
 // Writes memory, where the place is one of it.
 pub fn poke(memory: &mut [u64], i: usize, value: u64) {
     if i < memory.len() {
         memory[i] = value;
+    }
+}
+
+// Writes a byte; a line with a greater number is a bad one.
+pub fn poke_byte(memory: &mut [u8], i: usize, value: u64) {
+    if i < memory.len() {
+        memory[i] = (value % 0x100) as u8;
+    }
+}
+
+// Writes a 32-bit number, alike.
+pub fn poke_word(memory: &mut [u32], i: usize, value: u64) {
+    if i < memory.len() {
+        memory[i] = (value % 0x1_0000_0000) as u32;
     }
 }

@@ -33,6 +33,32 @@ fn sum_all_counts(xs: &[u16]) -> u64
     h
 }
 
+fn sum_all_bytes(xs: &[u8]) -> u64
+    ensures { λ r. ⌜ r ≡ sumOf (now (xs .entry)) ⌝ }
+{
+    let mut h = 0;
+    let mut i = 0;
+    while i < xs.len() {
+        let byte = xs[i] as u64;
+        h = mix(h, byte);
+        i += 1;
+    }
+    h
+}
+
+fn sum_all_words(xs: &[u32]) -> u64
+    ensures { λ r. ⌜ r ≡ sumOf (now (xs .entry)) ⌝ }
+{
+    let mut h = 0;
+    let mut i = 0;
+    while i < xs.len() {
+        let word = xs[i] as u64;
+        h = mix(h, word);
+        i += 1;
+    }
+    h
+}
+
 // The sum of the first so many numbers of a list, or of all that there are.
 pub fn sum_of(xs: &[u64], count: usize) -> u64
     ensures { λ r. ⌜ r ≡ sumOf (take count (now (xs .entry))) ⌝ }
@@ -52,5 +78,27 @@ pub fn sum_counts(xs: &[u16], count: usize) -> u64
         sum_all_counts(&xs[..count])
     } else {
         sum_all_counts(xs)
+    }
+}
+
+// Of bytes.
+pub fn sum_bytes(xs: &[u8], count: usize) -> u64
+    ensures { λ r. ⌜ r ≡ sumOf (take count (now (xs .entry))) ⌝ }
+{
+    if count < xs.len() {
+        sum_all_bytes(&xs[..count])
+    } else {
+        sum_all_bytes(xs)
+    }
+}
+
+// And of 32-bit numbers.
+pub fn sum_words(xs: &[u32], count: usize) -> u64
+    ensures { λ r. ⌜ r ≡ sumOf (take count (now (xs .entry))) ⌝ }
+{
+    if count < xs.len() {
+        sum_all_words(&xs[..count])
+    } else {
+        sum_all_words(xs)
     }
 }

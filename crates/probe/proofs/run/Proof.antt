@@ -1,15 +1,16 @@
 -- `probe::run` is safe and ends. The measure is the number of steps that are left. Assumes nothing.
-use Prim.Native.Nat.{_≤_}
+use Prim.Native.Nat.{_≤_, _<_}
+use native.Mathlib.Omega.{arith}
 use borrow.Author.Needs.{needs}
 use Rattle.probe.proofs.run.Statement.{statement}
 use Rattle.probe.proofs.run.Tie as tie
 
 abbrev Inv-loop : tie.InvT-loop
-Inv-loop text₀ numbers₀ rx-ring₀ rx-list₀ burst-list₀ tx-ring₀ tokens₀ counts₀ out₀ state₀ steps₀ text numbers rx-ring rx-list burst-list tx-ring tokens counts out state steps =
+Inv-loop text₀ numbers₀ rx-ring₀ rx-list₀ burst-list₀ tx-ring₀ tokens₀ counts₀ mrx-ring₀ mrx-list₀ mtx-ring₀ mtx-list₀ mbuf₀ out₀ state₀ steps₀ text numbers rx-ring rx-list burst-list tx-ring tokens counts mrx-ring mrx-list mtx-ring mtx-list mbuf out state steps =
     0 ≤ steps
 
 abbrev μ-loop : tie.MeasureT-loop
-μ-loop text₀ numbers₀ rx-ring₀ rx-list₀ burst-list₀ tx-ring₀ tokens₀ counts₀ out₀ state₀ steps₀ text numbers rx-ring rx-list burst-list tx-ring tokens counts out state steps =
+μ-loop text₀ numbers₀ rx-ring₀ rx-list₀ burst-list₀ tx-ring₀ tokens₀ counts₀ mrx-ring₀ mrx-list₀ mtx-ring₀ mtx-list₀ mbuf₀ out₀ state₀ steps₀ text numbers rx-ring rx-list burst-list tx-ring tokens counts mrx-ring mrx-list mtx-ring mtx-list mbuf out state steps =
     steps
 
 start-requires : tie.Need-start-requires Inv-loop μ-loop
@@ -21,11 +22,15 @@ loop-holds c = search needs
 step-requires : tie.Need-step-requires Inv-loop μ-loop
 step-requires c κs = tt
 
+-- the loop's test, seen from behind the step
+going : (c : tie.After-step Inv-loop μ-loop) → 0 < c .before .before .before .before .before .before .before .before .before .before .before .before .before .before .before .before .before .loop .steps
+going c = c .before .before .before .before .before .before .before .before .before .before .before .before .before .before .before .before .loop-test .taken
+
 sub-steps : tie.Need-sub-steps Inv-loop μ-loop
-sub-steps c = search needs
+sub-steps c = omega (arith, going c)
 
 loop-less : tie.Need-loop-less Inv-loop μ-loop
-loop-less c = search needs
+loop-less c = omega (arith, going c)
 
 loop-again : tie.Need-loop-again Inv-loop μ-loop
 loop-again c = search needs
