@@ -4,32 +4,32 @@ use crate::author::Author;
 use crate::bad_lines;
 use crate::interrupt::{LEAVE, MOST_INTERVAL, OFF, ON};
 use crate::record::Direction;
-use crate::verdict_aims;
 use crate::{burst_aims, count_aims, ptype_aims, receive_aims, sixth_aims, transmit_aims};
+use crate::{mailbox_aims, mailbox_read_aims, verdict_aims};
 
 type Aim = fn(&mut Author);
 
 /// How often each aim is taken, against the others.
-const AIMS: [(u64, Aim); 41] = [
+const AIMS: [(u64, Aim); 57] = [
     (6, receive_aims::fresh),
-    (20, receive_aims::refused_fresh),
+    (24, receive_aims::refused_fresh),
     (20, receive_aims::post),
     (8, receive_aims::fill),
     (6, receive_aims::refused_post),
     (60, receive_aims::traffic),
-    (40, receive_aims::damaged_write_back),
+    (55, receive_aims::damaged_write_back),
     (16, receive_aims::stale),
-    (45, receive_aims::damaged),
+    (60, receive_aims::damaged),
     (30, receive_aims::look),
     (6, receive_aims::scribble),
-    (30, burst_aims::ready),
+    (34, burst_aims::ready),
     (20, burst_aims::refused),
     (12, burst_aims::traffic),
     (10, burst_aims::write),
     (20, count_aims::receive_disagrees),
     (12, count_aims::last_posts),
-    (45, sixth_aims::fifth_and_sixth),
-    (20, verdict_aims::one_type),
+    (55, sixth_aims::fifth_and_sixth),
+    (28, verdict_aims::one_type),
     (16, verdict_aims::any_type),
     (12, verdict_aims::more_slots),
     (6, transmit_aims::fresh),
@@ -37,21 +37,37 @@ const AIMS: [(u64, Aim); 41] = [
     (40, transmit_aims::plain),
     (40, transmit_aims::segmented),
     (40, transmit_aims::crowd),
-    (180, transmit_aims::refused),
+    (230, transmit_aims::refused),
     (30, transmit_aims::muddled),
     (60, transmit_aims::reclaim),
     (12, transmit_aims::wrong_mark),
     (12, transmit_aims::wrong_count),
     (30, transmit_aims::fill),
-    (45, transmit_aims::damaged),
+    (55, transmit_aims::damaged),
     (30, transmit_aims::look),
     (6, transmit_aims::scribble),
     (20, count_aims::transmit_disagrees),
-    (20, count_aims::last_sends),
+    (24, count_aims::last_sends),
     (120, interrupt),
     (40, ptype_aims::look_up),
     (10, ptype_aims::too_large),
-    (100, bad_lines::any),
+    (24, mailbox_aims::asked),
+    (16, mailbox_aims::send),
+    (36, mailbox_aims::refused),
+    (30, mailbox_aims::shutting),
+    (50, mailbox_aims::muddled),
+    (7, mailbox_aims::over_old_bytes),
+    (20, mailbox_aims::fill),
+    (60, mailbox_aims::damaged),
+    (10, mailbox_aims::look),
+    (16, mailbox_aims::scribble),
+    (30, mailbox_read_aims::written),
+    (10, mailbox_read_aims::each_flag),
+    (16, mailbox_read_aims::each_opcode),
+    (10, mailbox_read_aims::each_length),
+    (16, mailbox_read_aims::traffic),
+    (16, mailbox_read_aims::stale),
+    (120, bad_lines::any),
 ];
 
 /// A line of thousands of pieces is long, so these come once in so many aims.

@@ -4,7 +4,7 @@ use crate::author::Author;
 use crate::script::LONGEST_LINE;
 
 /// Good lines of every form, to be spoilt.
-const GOOD: [&str; 24] = [
+const GOOD: [&str; 44] = [
     "rx 0 32 2048",
     "rxset 0 32 0 0 9 9 2048 64 32",
     "rxpoke 0 7",
@@ -29,6 +29,26 @@ const GOOD: [&str; 24] = [
     "txsum",
     "int 0 1 0 1 0 0 3 0",
     "ptype 26",
+    "mtx 4",
+    "mrx 4",
+    "mtxset 4 0 0 0 128 4",
+    "mrxset 4 0 0 128 4",
+    "mtxpoke 0 7",
+    "mrxpoke 0 7",
+    "mbuf 0 7",
+    "mtxlist 0 7",
+    "mrxlist 0 7",
+    "msend 1 7 4096 64 0 0 0 9",
+    "mshut 0 0 0 0 9",
+    "mdone 64",
+    "mpost 7 4096 64 0 0",
+    "mread 64",
+    "mtxtail",
+    "mtxreg",
+    "mrxtail",
+    "mrxreg",
+    "mtxsum",
+    "mrxsum",
 ];
 
 /// Numbers that are too large, or no numbers.
@@ -52,7 +72,7 @@ const UNFIT: [&str; 16] = [
 ];
 
 /// Lines that break a bound of the bench.
-const BEYOND: [&str; 46] = [
+const BEYOND: [&str; 99] = [
     "rxset 0 32 0 0 9 9 2048 16385 32",
     "rxset 0 32 0 0 9 9 2048 64 8193",
     "rxset 0 32 0 0 9 9 2048 18446744073709551615 32",
@@ -99,10 +119,63 @@ const BEYOND: [&str; 46] = [
     "ptype 282",
     "ptype 4294967322",
     "ptype 18446744073709551615",
+    "mtxset 4 0 0 2 128 4",
+    "mtxset 4 0 0 18446744073709551615 128 4",
+    "mtxset 4 0 0 0 32769 4",
+    "mtxset 4 0 0 0 128 1025",
+    "mtxset 4 0 0 0 18446744073709551615 4",
+    "mtxset 4 0 0 0 128 18446744073709551615",
+    "mrxset 4 0 0 32769 4",
+    "mrxset 4 0 0 128 1025",
+    "mrxset 4 0 0 18446744073709551615 4",
+    "mrxset 4 0 0 128 18446744073709551615",
+    "mrxset 4 0 0 0 128 4",
+    "mtxset 4 0 0 128 4",
+    "mtxpoke 32768 7",
+    "mtxpoke 18446744073709551615 7",
+    "mtxpoke 0 256",
+    "mtxpoke 0 18446744073709551615",
+    "mrxpoke 32768 7",
+    "mrxpoke 18446744073709551615 7",
+    "mrxpoke 0 256",
+    "mrxpoke 0 18446744073709551615",
+    "mbuf 8192 7",
+    "mbuf 18446744073709551615 7",
+    "mbuf 0 256",
+    "mbuf 0 18446744073709551615",
+    "mtxlist 1024 7",
+    "mtxlist 18446744073709551615 7",
+    "mtxlist 0 4294967296",
+    "mtxlist 0 18446744073709551615",
+    "mrxlist 1024 7",
+    "mrxlist 18446744073709551615 7",
+    "mrxlist 0 4294967296",
+    "mrxlist 0 18446744073709551615",
+    "msend 2 7 4096 64 0 0 0 9",
+    "msend 1 7 4096 8193 0 0 0 9",
+    "msend 1 7 4096 18446744073709551615 0 0 0 9",
+    "msend 1 7 4096 64 2 0 0 9",
+    "msend 1 7 4096 64 0 2 0 9",
+    "msend 1 7 4096 64 0 0 2 9",
+    "msend 18446744073709551615 7 4096 64 0 0 0 9",
+    "mshut 2 0 0 0 9",
+    "mshut 0 2 0 0 9",
+    "mshut 0 0 2 0 9",
+    "mshut 0 0 0 2 9",
+    "mshut 0 0 0 18446744073709551615 9",
+    "mdone 8193",
+    "mdone 18446744073709551615",
+    "mread 8193",
+    "mread 18446744073709551615",
+    "mpost 7 4096 8193 0 0",
+    "mpost 7 4096 18446744073709551615 0 0",
+    "mpost 7 4096 64 2 0",
+    "mpost 7 4096 64 0 2",
+    "mpost 7 4096 64 0 18446744073709551615",
 ];
 
 /// Whole lines of other sorts, among them records without the counts.
-const STRAY: [&str; 52] = [
+const STRAY: [&str; 96] = [
     " ",
     "  ",
     "\t",
@@ -155,6 +228,50 @@ const STRAY: [&str; 52] = [
     "ptype +26",
     "ptype 26.",
     "caf\u{e9}",
+    "mtx",
+    "mrx",
+    "mtx 4 4",
+    "mrx 4 4",
+    "m",
+    "mt",
+    "mtxs 4",
+    "mtx4",
+    "Mtx 4",
+    "mtxset 4 0 0 128 4 0 0",
+    "mrxset 4 0 0",
+    "msend",
+    "msend 1 7 4096 64 0 0 0",
+    "msend 1 7 4096 64 0 0 0 9 9",
+    "msends 1 7 4096 64 0 0 0 9",
+    "mshut",
+    "mshut 0 0 0 0",
+    "mshut 0 0 0 0 9 9",
+    "mshuts 0 0 0 0 9",
+    "mdone",
+    "mdone 64 64",
+    "mdon 64",
+    "mpost",
+    "mpost 7 4096 64 0",
+    "mpost 7 4096 64 0 0 0",
+    "mread",
+    "mread 64 64",
+    "mreads 64",
+    "mbuf",
+    "mbuf 0",
+    "mbuf 0 7 7",
+    "mbufs 0 7",
+    "mtxtail 0",
+    "mtxreg 0",
+    "mrxtail 0",
+    "mrxreg 0",
+    "mtxsum 0",
+    "mrxsum 0",
+    "mtail",
+    "mreg",
+    "msum",
+    "mtxdone 64",
+    "mrxread 64",
+    "mrxshut 0 0 0 0 9",
 ];
 
 fn spoilt(author: &mut Author) -> Vec<u8> {
@@ -187,9 +304,9 @@ fn spoilt_byte(author: &mut Author, good: &str) -> Vec<u8> {
 }
 
 pub fn any(author: &mut Author) {
-    let line = match author.random.below(4) {
-        0 => author.random.pick(&BEYOND).as_bytes().to_vec(),
-        1 => author.random.pick(&STRAY).as_bytes().to_vec(),
+    let line = match author.random.below(5) {
+        0 | 1 => author.random.pick(&BEYOND).as_bytes().to_vec(),
+        2 => author.random.pick(&STRAY).as_bytes().to_vec(),
         _ => spoilt(author),
     };
     author.say(line);

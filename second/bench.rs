@@ -1,11 +1,12 @@
-//! The bench: one receive queue, one transmit queue, the burst's list, and the lines that are
-//! printed.
+//! The bench: one receive queue, one transmit queue, the burst's list, the mailbox, and the lines
+//! that are printed.
 
 use crate::burst;
 use crate::burst_cover::{self, Scene};
 use crate::count_cover::{self, Waiting};
 use crate::cover::{self, Seen};
 use crate::interrupt;
+use crate::mailbox_bench::Mailbox;
 use crate::packet_type;
 use crate::ptype_cover;
 use crate::receive::{self, Packet};
@@ -40,6 +41,7 @@ pub struct Bench {
     pub tx: Transmit,
     /// The burst's list.
     pub out: Vec<u64>,
+    pub mail: Mailbox,
     pub seen: Seen,
     /// The answer of the last call that had one.
     pub answer: u8,
@@ -79,6 +81,7 @@ impl Bench {
                 lent_counts: 0,
             },
             out: vec![0; script::OUT as usize],
+            mail: Mailbox::new(),
             seen: Seen::new(),
             answer: 0,
             waiting: None,
@@ -119,6 +122,7 @@ impl Bench {
             Command::RxSum => self.rx_sum(out),
             Command::Int(request) => self.interrupt(request, out),
             Command::PacketType { number } => self.packet_type(*number, out),
+            Command::Mailbox(line) => self.mailbox_line(line, out),
             _ => self.transmit_command(command, out),
         }
     }
@@ -145,7 +149,7 @@ impl Bench {
     }
 
     /// Notes the answer of a call; `done` names the kind of an accepted one.
-    fn note<T>(&mut self, call: &'static str, judged: &Judged<T>, done: &'static str) -> u8 {
+    pub fn note<T>(&mut self, call: &'static str, judged: &Judged<T>, done: &'static str) -> u8 {
         let (answer, cause) = match judged {
             Ok(_) => (0, done),
             Err(refusal) => (refusal.answer, refusal.cause),

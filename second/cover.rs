@@ -3,7 +3,8 @@
 use crate::receive::{self, Packet, DATA_SLOTS, FIELD_NAMES};
 use crate::record::bits;
 use crate::transmit::{Send, NO_ROOM_PLAIN, NO_ROOM_SEGMENTED};
-use crate::{burst_cover, count_cover, ptype_cover, sixth_cover, verdict_cover};
+use crate::{burst_cover, count_cover, mailbox_cover, mailbox_read_cover};
+use crate::{ptype_cover, sixth_cover, verdict_cover};
 use std::collections::BTreeMap;
 use std::fmt::Write;
 
@@ -120,7 +121,7 @@ fn width_of(field: &str) -> u32 {
 
 /// Every answer that a call can give (`out` has none; a sum, `ptype` and `bad` have no number and
 /// stand as 0).
-const PAIRS: [(&str, &[u8]); 16] = [
+const PAIRS: [(&str, &[u8]); 29] = [
     ("rx", &[0, 1]),
     ("post", &[0, 1, 2, 3]),
     ("take", &[0, 1, 4, 5]),
@@ -136,6 +137,19 @@ const PAIRS: [(&str, &[u8]); 16] = [
     ("txsum", &[0]),
     ("int", &[0, 9]),
     ("ptype", &[0]),
+    ("mtx", &[0, 1]),
+    ("msend", &[0, 1, 2, 3, 11, 12]),
+    ("mshut", &[0, 1, 3, 12]),
+    ("mdone", &[0, 1, 4, 5, 11]),
+    ("mtxtail", &[0, 1]),
+    ("mtxreg", &[0, 1]),
+    ("mtxsum", &[0]),
+    ("mrx", &[0, 1]),
+    ("mpost", &[0, 1, 2, 3, 11]),
+    ("mread", &[0, 1, 4, 5, 11]),
+    ("mrxtail", &[0, 1]),
+    ("mrxreg", &[0, 1]),
+    ("mrxsum", &[0]),
     ("bad", &[0]),
 ];
 
@@ -290,6 +304,14 @@ const BAD: &[&str] = &[
     "flag above 1",
     "kind above its last",
     "packet type above 255",
+    "byte above 255",
+    "value above 2^32 - 1",
+    "index beyond a mailbox ring",
+    "index beyond a mailbox list",
+    "index beyond the mailbox buffer",
+    "length beyond a mailbox ring",
+    "length beyond a mailbox list",
+    "length beyond the mailbox buffer",
 ];
 
 /// Every clause behind an answer that a call can give.
@@ -423,7 +445,8 @@ impl Seen {
         let (mut clauses, mut met, mut gaps) = (0, 0, 0);
         let beside = burst_cover::CAUSES.iter().chain(count_cover::CAUSES);
         let beside = beside.chain(sixth_cover::CAUSES).chain(ptype_cover::CAUSES);
-        let beside = beside.chain(verdict_cover::CAUSES);
+        let beside = beside.chain(verdict_cover::CAUSES).chain(mailbox_cover::CAUSES);
+        let beside = beside.chain(mailbox_read_cover::CAUSES);
         for (call, answer, causes) in CAUSES.iter().chain(beside) {
             for cause in *causes {
                 let times = self.answers.get(&(*call, *answer, *cause)).copied().unwrap_or(0);
@@ -473,7 +496,8 @@ impl Seen {
 fn counted() -> impl Iterator<Item = &'static str> {
     let beside = burst_cover::COUNTED.into_iter().chain(count_cover::COUNTED);
     let beside = beside.chain(sixth_cover::COUNTED).chain(ptype_cover::COUNTED);
-    COUNTED.into_iter().chain(beside).chain(verdict_cover::COUNTED)
+    let beside = beside.chain(verdict_cover::COUNTED).chain(mailbox_cover::COUNTED);
+    COUNTED.into_iter().chain(beside).chain(mailbox_read_cover::COUNTED)
 }
 
 fn mark(times: u64) -> &'static str {

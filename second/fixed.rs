@@ -1,10 +1,10 @@
 //! The fixed script: what every limit and every bit asks for, then random lines.
 
 use crate::author::Author;
-use crate::fixed_verdict;
 use crate::script::LONGEST_LINE;
 use crate::{aims, bad_lines};
 use crate::{fixed_burst, fixed_counts, fixed_ptype, fixed_receive, fixed_sixth, fixed_transmit};
+use crate::{fixed_mailbox, fixed_mailbox_read, fixed_verdict};
 
 /// Random lines at the end, from a seed of their own.
 const RANDOM_LINES: usize = 4_000;
@@ -30,6 +30,8 @@ pub fn script() -> Vec<u8> {
     fixed_counts::all(&mut author);
     fixed_ptype::all(&mut author);
     fixed_verdict::all(&mut author);
+    fixed_mailbox::all(&mut author);
+    fixed_mailbox_read::all(&mut author);
     bad(&mut author);
     author.say("# random lines");
     let end = author.lines() + RANDOM_LINES;
@@ -48,6 +50,8 @@ fn bad(author: &mut Author) {
     author.say("post 8192");
     author.say("burst 33 96");
     author.say("tx 1 32 1518");
+    author.say("mtx 4");
+    author.say("mrx 4");
     bad_lines::all(author);
     author.say("# a comment may hold any bytes: \0\t\r\u{e9}");
     author.say(vec![b'#', 0xFF, 0xFE, 0x80]);
@@ -59,6 +63,9 @@ fn bad(author: &mut Author) {
     author.say("post 000000000000000012288");
     author.say("post 18446744073709549568");
     for call in ["rxtail", "rxsum", "burst 33 96", "txtail", "txsum"] {
+        author.say(call);
+    }
+    for call in ["mtxtail", "mtxsum", "mrxtail", "mrxsum", "mdone 8192", "mread 8192"] {
         author.say(call);
     }
 }

@@ -1,4 +1,4 @@
-//! The second program: document 01's calls with 02's changes up to M-104, written a second time
+//! The second program: document 01's calls with 02's changes up to M-105, written a second time
 //! from the documents alone, to be held against the proved library line by line.
 
 mod aims;
@@ -17,6 +17,8 @@ mod cover;
 mod fixed;
 mod fixed_burst;
 mod fixed_counts;
+mod fixed_mailbox;
+mod fixed_mailbox_read;
 mod fixed_ptype;
 mod fixed_receive;
 mod fixed_sixth;
@@ -24,6 +26,17 @@ mod fixed_transmit;
 mod fixed_verdict;
 mod interrupt;
 mod layouts;
+mod mailbox;
+mod mailbox_aims;
+mod mailbox_author;
+mod mailbox_bench;
+mod mailbox_cover;
+mod mailbox_lines;
+mod mailbox_read;
+mod mailbox_read_aims;
+mod mailbox_read_cover;
+mod mailbox_read_selftest;
+mod mailbox_selftest;
 mod packet_type;
 mod ptype_aims;
 mod ptype_cover;

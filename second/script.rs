@@ -11,6 +11,7 @@
 //! - text after the last line end is a line, nothing after it is not.
 
 use crate::interrupt;
+use crate::mailbox_lines;
 use crate::record::Record;
 use crate::transmit::Send;
 
@@ -45,6 +46,7 @@ pub enum Command {
     TxSum,
     Int(interrupt::Request),
     PacketType { number: u8 },
+    Mailbox(mailbox_lines::Line),
 }
 
 /// Why a line is bad. Only that it is bad is ever printed.
@@ -53,6 +55,9 @@ pub type Bad = &'static str;
 impl Command {
     /// Lines that only write the bench's memory or record print nothing.
     pub fn prints(&self) -> bool {
+        if let Command::Mailbox(line) = self {
+            return line.prints();
+        }
         !matches!(
             self,
             Command::RxSet { .. }
@@ -98,12 +103,12 @@ pub fn read(line: &[u8]) -> Result<Option<Command>, Bad> {
     command(form.name, &numbers).map(Some)
 }
 
-struct Form {
+pub struct Form {
     name: &'static str,
     numbers: usize,
 }
 
-const fn form(name: &'static str, numbers: usize) -> Form {
+pub const fn form(name: &'static str, numbers: usize) -> Form {
     Form { name, numbers }
 }
 
@@ -111,7 +116,8 @@ const SEND_NUMBERS: usize = 13;
 /// A record's numbers; the lent lengths follow them.
 const RECORD_NUMBERS: usize = 7;
 
-/// Each line's word, and how many numbers follow (`send`: before its addresses).
+/// Each line's word, and how many numbers follow (`send`: before its addresses). The mailbox's
+/// lines stand beside them.
 const FORMS: [Form; 23] = [
     form("rx", 3),
     form("rxset", RECORD_NUMBERS + 2),
@@ -142,7 +148,8 @@ fn form_of(name: &[u8]) -> Result<&'static Form, Bad> {
     if name.is_empty() {
         return Err("empty word");
     }
-    FORMS.iter().find(|form| form.name.as_bytes() == name).ok_or("unknown word")
+    let mut forms = FORMS.iter().chain(&mailbox_lines::FORMS);
+    forms.find(|form| form.name.as_bytes() == name).ok_or("unknown word")
 }
 
 fn number(word: &[u8]) -> Result<u64, Bad> {
@@ -194,7 +201,8 @@ fn command(name: &str, n: &[u64]) -> Result<Command, Bad> {
         "txreg" => Command::TxReg,
         "txsum" => Command::TxSum,
         "int" => Command::Int(interrupt_request(n)?),
-        _ => Command::PacketType { number: packet_type(n[0])? },
+        "ptype" => Command::PacketType { number: packet_type(n[0])? },
+        _ => Command::Mailbox(mailbox_lines::line(name, n)?),
     })
 }
 
@@ -211,14 +219,14 @@ fn record(n: &[u64]) -> Record {
     }
 }
 
-fn lent(value: u64, held: u64) -> Result<usize, Bad> {
+pub fn lent(value: u64, held: u64) -> Result<usize, Bad> {
     if value > held {
         return Err("length beyond the memory held");
     }
     Ok(value as usize)
 }
 
-fn index(value: u64, held: u64) -> Result<usize, Bad> {
+pub fn index(value: u64, held: u64) -> Result<usize, Bad> {
     if value >= held {
         return Err("index beyond the memory held");
     }
@@ -244,7 +252,7 @@ fn packet_type(value: u64) -> Result<u8, Bad> {
     u8::try_from(value).map_err(|_| "packet type above 255")
 }
 
-fn flag(value: u64) -> Result<u64, Bad> {
+pub fn flag(value: u64) -> Result<u64, Bad> {
     if value > 1 {
         return Err("flag above 1");
     }

@@ -1,5 +1,6 @@
 //! The program's own checks: the paper's examples, answer 8 against a count byte by byte, and those
-//! of the burst, of the counts, of packets of six slots, of packet types and of verdicts.
+//! of the burst, of the counts, of packets of six slots, of packet types, of verdicts and of the
+//! mailbox.
 
 use crate::author::Random;
 use crate::interrupt;
@@ -9,7 +10,8 @@ use crate::record::{bits, Direction, Record};
 use crate::segments;
 use crate::transmit::{self, Lent, Send};
 use crate::{aims, answers, compare, fixed};
-use crate::{burst_selftest, count_selftest, ptype_selftest, sixth_selftest, verdict_selftest};
+use crate::{burst_selftest, count_selftest, mailbox_read_selftest, mailbox_selftest};
+use crate::{ptype_selftest, sixth_selftest, verdict_selftest};
 use std::process::exit;
 
 pub struct Checks {
@@ -41,6 +43,8 @@ pub fn run() {
     sixth_selftest::all(&mut checks);
     ptype_selftest::all(&mut checks);
     verdict_selftest::all(&mut checks);
+    mailbox_selftest::all(&mut checks);
+    mailbox_read_selftest::all(&mut checks);
     script_lines(&mut checks);
     scripts(&mut checks);
     println!("selftest: {} checks, {} failed", checks.made, checks.failed);
