@@ -14,7 +14,7 @@ use ring::Queue;
 pub const PACKET_NUMBERS: usize = 3;
 
 // What a walk finds: the answer, the record's shared part after it, of a packet the slot count and the total length, and the slots examined.
-#[derive(Drop)]
+#[derive(Clone, Copy)]
 pub struct Found {
     pub answer: u8,
     pub queue: Queue,
@@ -24,7 +24,7 @@ pub struct Found {
 }
 
 // What a burst gives: the number that stopped it, the record's shared part after it, the packets told and the slots examined.
-#[derive(Drop)]
+#[derive(Clone, Copy)]
 pub struct Polled {
     pub answer: u8,
     pub queue: Queue,

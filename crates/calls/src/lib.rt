@@ -12,7 +12,7 @@ use script::{Given, NUMBERS, OUT, RING, Row, SLOTS, no_row};
 use send_lines::Tx;
 
 // Both queues, and the numbers of the last answer.
-#[derive(Drop)]
+#[derive(Clone, Copy)]
 pub struct Bench {
     rx: Rx,
     tx: Tx,

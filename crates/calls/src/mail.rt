@@ -5,7 +5,7 @@ use mail_rows::Side;
 use script::{ELEMENTS, Given, MAIL_BUFFER, MAIL_RING, Row, no_row, poke_byte};
 
 // Both rings, and the numbers of the last answer.
-#[derive(Drop)]
+#[derive(Clone, Copy)]
 pub struct Mail {
     rx: Side,
     tx: Side,

@@ -4,7 +4,7 @@ ghost use mathlib.Core.List.{foldl};
 ghost use Rattle.decimal.specs.Numbers.{is_digit, number_is, number_of, next_read};
 
 // What a word says: a number, or none (then the value is 0).
-#[derive(Drop)]
+#[derive(Clone, Copy)]
 pub struct Number {
     pub ok: bool,
     pub value: u64,

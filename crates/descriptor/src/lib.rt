@@ -46,7 +46,7 @@ const CRC: u64 = 0x40;
 const SEGMENTATION: u64 = 0x11;
 
 // A data descriptor's word 1, field by field. MACLEN is in 2-byte units, IPLEN and L4LEN are in 4-byte units.
-#[derive(Drop)]
+#[derive(Clone, Copy)]
 pub struct Data {
     pub eop: bool,
     pub rs: bool,
@@ -61,7 +61,7 @@ pub struct Data {
 }
 
 // A context descriptor's word 1.
-#[derive(Drop)]
+#[derive(Clone, Copy)]
 pub struct Context {
     pub tlen: u64,
     pub mss: u64,

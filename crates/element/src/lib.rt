@@ -9,7 +9,7 @@ pub const ELEMENT: usize = 32;
 pub const COOKIE: usize = 8;
 
 // The fields of an element, the address in two halves.
-#[derive(Drop)]
+#[derive(Clone, Copy)]
 pub struct Element {
     pub flags: u16,
     pub opcode: u16,

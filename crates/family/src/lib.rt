@@ -3,7 +3,7 @@ ghost use Rattle.std.specs.Prelude.{◌≡◌};
 ghost use Rattle.family.specs.Types.{family_of, family_number};
 
 // The family of a packet type number.
-#[derive(Drop)]
+#[derive(Clone, Copy)]
 pub enum Family {
     Unknown,
     Mac,

@@ -4,7 +4,7 @@ ghost use Rattle.feed.specs.Feeding.{no_lines, next_of, last_of, more_of, RoomMa
 
 // The part of the memory that is not read yet, and whether it goes on a line of which the beginning
 // was given up.
-#[derive(Drop)]
+#[derive(Clone, Copy)]
 pub struct Lines {
     pub start: usize,
     pub end: usize,
@@ -13,7 +13,7 @@ pub struct Lines {
 
 // A line, where one was found: its bytes stand from one place up to another. A line that is too
 // long for the memory has lost its beginning.
-#[derive(Drop)]
+#[derive(Clone, Copy)]
 pub struct Line {
     pub found: bool,
     pub long: bool,

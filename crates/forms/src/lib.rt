@@ -8,7 +8,7 @@ use script::{GIVEN, Given, NUMBERS, OUT, RING, SLOTS};
 use words::{is_silent, numbers_behind, word_end};
 
 // What a line says: a command whose numbers are as they should be, or nothing; its first numbers; and whether it is of no form.
-#[derive(Drop)]
+#[derive(Clone, Copy)]
 pub struct Said {
     pub command: Command,
     pub given: Given,

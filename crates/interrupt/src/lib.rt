@@ -4,7 +4,7 @@ ghost use Rattle.rules.specs.Rules.{any_of};
 ghost use Rattle.interrupt.specs.Interrupt.{is_on, is_off, is_leave, most_vector, wrongs, offset_of, interrupt_word, interrupt_of, fields_of};
 
 // What becomes of the enable bit.
-#[derive(Drop)]
+#[derive(Clone, Copy)]
 pub enum Enable {
     On,
     Off,
@@ -12,7 +12,7 @@ pub enum Enable {
 }
 
 // The ITR index goes with an interval in microseconds; the trigger has an index of its own.
-#[derive(Drop)]
+#[derive(Clone, Copy)]
 pub struct Request {
     pub vector: u64,
     pub enable: Enable,
@@ -25,7 +25,7 @@ pub struct Request {
 }
 
 // The number that comes back, the register's offset and the word to write there.
-#[derive(Drop)]
+#[derive(Clone, Copy)]
 pub struct Answer {
     pub answer: u8,
     pub offset: u64,
@@ -33,7 +33,7 @@ pub struct Answer {
 }
 
 // A word's fields by the register's own names. The interval is in 2 microsecond units.
-#[derive(Drop)]
+#[derive(Clone, Copy)]
 pub struct Fields {
     pub intena: bool,
     pub clearpba: bool,

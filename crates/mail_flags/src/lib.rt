@@ -23,7 +23,7 @@ const EI: u64 = 14;
 const FE: u64 = 15;
 
 // The flags that a driver sets; it leaves all others clear.
-#[derive(Drop)]
+#[derive(Clone, Copy)]
 pub struct Flags {
     pub lb: bool,
     pub rd: bool,

@@ -16,7 +16,7 @@ const MESSAGE_FROM_PF: u16 = 0x0802;
 const COOKIE_PLACE: usize = 8;
 
 // The numbers of an element, and where the message lies: in the buffer, or in the ring.
-#[derive(Drop)]
+#[derive(Clone, Copy)]
 pub struct Reading {
     pub error: bool,
     pub value: u16,

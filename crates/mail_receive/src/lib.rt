@@ -12,18 +12,18 @@ use ring::Asked;
 // VF_ARQT.
 const TAIL_REGISTER: u16 = 0x7000;
 
-#[derive(Drop)]
+#[derive(Clone, Copy)]
 pub struct ReceiveRing {
     pub shared: Ring,
 }
 
-#[derive(Drop)]
+#[derive(Clone, Copy)]
 pub struct Posted {
     pub answer: u8,
     pub queue: ReceiveRing,
 }
 
-#[derive(Drop)]
+#[derive(Clone, Copy)]
 pub struct Received {
     pub answer: u8,
     pub queue: ReceiveRing,

@@ -22,7 +22,7 @@ const LARGE_BUFFER: usize = 512;
 const HALF: u64 = 0x1_0000_0000;
 
 // A message to be sent: in a buffer at an address, or in the cookie.
-#[derive(Drop)]
+#[derive(Clone, Copy)]
 pub struct Message {
     pub buf: bool,
     pub length: usize,
@@ -33,7 +33,7 @@ pub struct Message {
     pub cookie: [u8; COOKIE],
 }
 
-#[derive(Drop)]
+#[derive(Clone, Copy)]
 pub struct Shutdown {
     pub unloading: bool,
     pub si: bool,
@@ -43,7 +43,7 @@ pub struct Shutdown {
 }
 
 // Room for a message to be received, a buffer at an address.
-#[derive(Drop)]
+#[derive(Clone, Copy)]
 pub struct Room {
     pub length: usize,
     pub address: u64,

@@ -16,7 +16,7 @@ const SIZE_MOST: usize = 1023;
 pub const OPCODE: u32 = 65536;
 
 // The part of the record that both rings have.
-#[derive(Drop)]
+#[derive(Clone, Copy)]
 pub struct Ring {
     pub size: usize,
     pub head: usize,
@@ -24,7 +24,7 @@ pub struct Ring {
 }
 
 // The element at head and what was posted there, where the device is done with it; zeros beside 1 and 4.
-#[derive(Drop)]
+#[derive(Clone, Copy)]
 pub struct Seen {
     pub answer: u8,
     pub element: Element,

@@ -7,7 +7,7 @@ use script::{Given, Row, row_of};
 use sum::{sum_bytes, sum_words};
 
 // A ring's record, and how many bytes of its memory and numbers of its list are lent. The receive ring is never shut.
-#[derive(Drop)]
+#[derive(Clone, Copy)]
 pub struct Side {
     pub shared: Ring,
     pub shut: bool,
@@ -16,7 +16,7 @@ pub struct Side {
 }
 
 // What a line leaves: the ring, and the numbers of its answer.
-#[derive(Drop)]
+#[derive(Clone, Copy)]
 pub struct Mailed {
     pub side: Side,
     pub row: Row,

@@ -13,20 +13,20 @@ use ring::Asked;
 const TAIL_REGISTER: u16 = 0x8400;
 
 // What both rings have, and whether a shutdown has been posted.
-#[derive(Drop)]
+#[derive(Clone, Copy)]
 pub struct SendRing {
     pub shared: Ring,
     pub shut: bool,
 }
 
-#[derive(Drop)]
+#[derive(Clone, Copy)]
 pub struct Sent {
     pub answer: u8,
     pub queue: SendRing,
 }
 
 // A completion of a send or of a shutdown, as its opcode says; the message by `mail_reading::part` of its reading.
-#[derive(Drop)]
+#[derive(Clone, Copy)]
 pub struct Completion {
     pub answer: u8,
     pub queue: SendRing,

@@ -10,7 +10,7 @@ use family::Family;
 use table::{DIGIT, FRAGMENT, KIND, TABLE, VERSION};
 
 // What a packet carries above IP, as far as Table 2-4 tells it.
-#[derive(Drop)]
+#[derive(Clone, Copy)]
 pub enum L4 {
     None,
     Tcp,
@@ -20,7 +20,7 @@ pub enum L4 {
 }
 
 // What a packet type number tells. The version is 4 or 6, or 0 for none.
-#[derive(Drop)]
+#[derive(Clone, Copy)]
 pub struct Entry {
     pub family: Family,
     pub version: u8,

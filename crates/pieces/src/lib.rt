@@ -19,7 +19,7 @@ const LEAST_TOTAL: u64 = 17;
 const CAP: u64 = 0x1_0000_0000;
 
 // What one walk over the pieces finds: no cause of 6; then whether there is none of 2, and the bytes of all pieces.
-#[derive(Drop)]
+#[derive(Clone, Copy)]
 pub struct Found {
     pub ok: bool,
     pub addresses_ok: bool,

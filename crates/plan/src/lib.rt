@@ -4,7 +4,7 @@ mod join;
 mod planner;
 
 // What the planner proposes: so many runs.
-#[derive(Drop)]
+#[derive(Clone, Copy)]
 pub struct Planned {
     pub answer: u8,
     pub count: usize,

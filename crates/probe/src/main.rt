@@ -12,7 +12,7 @@ use reading::{Reading, TEXT};
 use script::{ELEMENTS, MAIL_BUFFER, MAIL_RING, NUMBERS, OUT, RING, SLOTS};
 
 // What a line says, where the line stands, the rest of the input, and the place behind what is printed and not written out.
-#[derive(Drop)]
+#[derive(Clone, Copy)]
 struct Heard {
     said: Said,
     line: Line,
@@ -20,7 +20,7 @@ struct Heard {
     next: usize,
 }
 
-#[derive(Drop)]
+#[derive(Clone, Copy)]
 struct State {
     reading: Reading,
     bench: Bench,

@@ -8,7 +8,7 @@ use libc::STDIN_FILENO;
 pub(crate) const TEXT: usize = 524289;
 
 // What was read and is not used yet, how many lines were, and whether there may be more.
-#[derive(Drop)]
+#[derive(Clone, Copy)]
 pub(crate) struct Reading {
     lines: Lines,
     pub(crate) number: u64,
@@ -16,7 +16,7 @@ pub(crate) struct Reading {
 }
 
 // A turn's line, where it found one, and the place behind what is printed and not written out.
-#[derive(Drop)]
+#[derive(Clone, Copy)]
 pub(crate) struct Turn {
     pub(crate) line: Line,
     pub(crate) reading: Reading,

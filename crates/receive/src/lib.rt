@@ -16,26 +16,26 @@ pub const BURST_PACKETS: usize = 32;
 pub const BURST_NUMBERS: usize = PACKET_NUMBERS * BURST_PACKETS;
 
 // What every queue's record has, and the size of a buffer.
-#[derive(Drop)]
+#[derive(Clone, Copy)]
 pub struct RxQueue {
     pub shared: Queue,
     pub buffer: usize,
 }
 
-#[derive(Drop)]
+#[derive(Clone, Copy)]
 pub struct Fresh {
     pub answer: u8,
     pub queue: RxQueue,
 }
 
-#[derive(Drop)]
+#[derive(Clone, Copy)]
 pub struct Posted {
     pub answer: u8,
     pub queue: RxQueue,
 }
 
 // A packet handed up: places past its slots are 0, and the fields are those of its last slot.
-#[derive(Drop)]
+#[derive(Clone, Copy)]
 pub struct Packet {
     pub count: usize,
     pub total: usize,
@@ -44,7 +44,7 @@ pub struct Packet {
     pub last: WriteBack,
 }
 
-#[derive(Drop)]
+#[derive(Clone, Copy)]
 pub struct Taken {
     pub answer: u8,
     pub queue: RxQueue,
@@ -52,7 +52,7 @@ pub struct Taken {
 }
 
 // What many takes come to: the number that stopped them, the record carried on, the packets taken and the slots examined.
-#[derive(Drop)]
+#[derive(Clone, Copy)]
 pub struct Burst {
     pub answer: u8,
     pub queue: RxQueue,

@@ -6,7 +6,7 @@ use ring::{Asked, Queue};
 use script::{Given, RING, Row, SLOTS, fresh_row, lent, no_row, poke, queue_of, queue_row, row_of};
 use sum::sum_of;
 
-#[derive(Drop)]
+#[derive(Clone, Copy)]
 pub struct Rx {
     pub queue: RxQueue,
     pub ring: usize,
@@ -14,7 +14,7 @@ pub struct Rx {
 }
 
 // What a line leaves: the queue, and the numbers of its answer.
-#[derive(Drop)]
+#[derive(Clone, Copy)]
 pub struct Received {
     pub rx: Rx,
     pub row: Row,

@@ -5,7 +5,7 @@ use receive::{RxQueue, Taken};
 const BUFFER: usize = 2048;
 
 // The record and the sum as far as a run has come, and the device's place.
-#[derive(Drop)]
+#[derive(Clone, Copy)]
 pub struct Run {
     pub queue: RxQueue,
     pub sum: u64,

@@ -22,7 +22,7 @@ pub const SCTP: u64 = 2;
 
 pub const UDP: u64 = 3;
 
-#[derive(Drop)]
+#[derive(Clone, Copy)]
 pub enum IpKind {
     None,
     Ipv6,
@@ -30,7 +30,7 @@ pub enum IpKind {
     Ipv4Checksum,
 }
 
-#[derive(Drop)]
+#[derive(Clone, Copy)]
 pub enum L4Kind {
     None,
     Tcp,
@@ -39,7 +39,7 @@ pub enum L4Kind {
 }
 
 // What a send asks of the device. The header's lengths are in bytes.
-#[derive(Drop)]
+#[derive(Clone, Copy)]
 pub struct Request {
     pub ip: IpKind,
     pub l4: L4Kind,

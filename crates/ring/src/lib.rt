@@ -1,4 +1,5 @@
 // The part of the queue record that the receive and the transmit queue have in common.
+#![tactic(auto)]
 ghost use Rattle.std.specs.Prelude.{◌≡◌};
 ghost use Rattle.ring.specs.Sizes.{counts_ok};
 ghost use Rattle.ring.specs.Queue.{Shared, ever_posted, ever_returned, shared_ok, slot_of, tail_of, register_at, no_room, empty_queue, advanced, grown, asked_of};
@@ -22,7 +23,7 @@ const COUNT_MOST: u64 = 0xffffffffffffffff;
 const REGISTER_STEP: usize = 4;
 
 // The part of a queue record that both queues have. The two counts are of slots since the queue was fresh.
-#[derive(Drop)]
+#[derive(Clone, Copy)]
 pub struct Queue {
     pub queue: usize,
     pub size: usize,
@@ -33,7 +34,7 @@ pub struct Queue {
 }
 
 // A number asked of a record, 0 beside a refusal.
-#[derive(Drop)]
+#[derive(Clone, Copy)]
 pub struct Asked {
     pub answer: u8,
     pub value: usize,

@@ -26,7 +26,7 @@ const TABLE: u64 = 6;
 const MATCH: u64 = 7;
 
 // A line as far as it is read.
-#[derive(Drop)]
+#[derive(Clone, Copy)]
 struct Line {
     values: [u64; NUMBERS],
     at: usize,

@@ -1,4 +1,6 @@
 // Rules that the receive and the transmit queue share.
+#![tactic(auto)]
+
 ghost use Rattle.std.specs.Prelude.{◌≡◌, cond, ◌-◌, ◌^◌, ◌≤◌, eqb};
 ghost use Rattle.rules.specs.Address.{address_wrong};
 

@@ -12,7 +12,7 @@ pub const PACKET_SLOTS: usize = DATA_SLOTS + 1;
 
 // What a scan gives: the answer, the record's shared part after it, and of a packet the slot count, the total length, each slot's address and length
 // (places past the slots are 0) and the last slot's words.
-#[derive(Drop)]
+#[derive(Clone, Copy)]
 pub struct Seen {
     pub answer: u8,
     pub queue: Queue,

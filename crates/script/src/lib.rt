@@ -29,7 +29,7 @@ pub const NUMBERS: usize = GIVEN + RING;
 pub const LONGEST: usize = 36;
 
 // The first numbers of a line, by their place.
-#[derive(Drop)]
+#[derive(Clone, Copy)]
 pub struct Given {
     pub n0: u64,
     pub n1: u64,
@@ -47,7 +47,7 @@ pub struct Given {
 }
 
 // An answer's numbers, so many of them; a line that prints nothing has none.
-#[derive(Drop)]
+#[derive(Clone, Copy)]
 pub struct Row {
     pub values: [u64; LONGEST],
     pub count: usize,

@@ -10,7 +10,7 @@ use script::{
 use sum::{sum_counts, sum_of};
 use transmit::{Reclaimed, Sent, TxQueue};
 
-#[derive(Drop)]
+#[derive(Clone, Copy)]
 pub struct Tx {
     queue: TxQueue,
     ring: usize,
@@ -19,7 +19,7 @@ pub struct Tx {
 }
 
 // What a line leaves: the queue, and the numbers of its answer.
-#[derive(Drop)]
+#[derive(Clone, Copy)]
 pub struct Passed {
     pub tx: Tx,
     pub row: Row,

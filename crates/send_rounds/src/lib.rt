@@ -13,7 +13,7 @@ const PLAIN: u64 = 100;
 const HEADER: u64 = 54;
 
 // What a run is asked with: the bytes of the first piece and of those behind it.
-#[derive(Drop)]
+#[derive(Clone, Copy)]
 pub struct Asked {
     first: u64,
     behind: u64,
@@ -49,7 +49,7 @@ fn request(asked: Asked, i: u64) -> Request {
 }
 
 // The record and the sum as far as a run has come, and the slot of the last packet's end.
-#[derive(Drop)]
+#[derive(Clone, Copy)]
 struct Run {
     queue: TxQueue,
     sum: u64,

@@ -1,4 +1,6 @@
 // The step round a ring: from a slot to the one at a distance, and to the next.
+#![tactic(auto)]
+
 ghost use Rattle.slots.specs.Steps.{SlotIs, Step};
 
 // The slot at distance k from head, which is less than a lap.

@@ -6,27 +6,27 @@ mod send;
 use ring::Queue;
 
 // What the receive queue has too, and the maximum frame, which is the transmit queue's own.
-#[derive(Drop)]
+#[derive(Clone, Copy)]
 pub struct TxQueue {
     pub shared: Queue,
     pub frame: usize,
 }
 
-#[derive(Drop)]
+#[derive(Clone, Copy)]
 pub struct Fresh {
     pub answer: u8,
     pub queue: TxQueue,
 }
 
 // The slots that an accepted send took.
-#[derive(Drop)]
+#[derive(Clone, Copy)]
 pub struct Sent {
     pub answer: u8,
     pub queue: TxQueue,
     pub slots: usize,
 }
 
-#[derive(Drop)]
+#[derive(Clone, Copy)]
 pub struct Reclaimed {
     pub answer: u8,
     pub queue: TxQueue,

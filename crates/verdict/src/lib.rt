@@ -7,7 +7,7 @@ ghost use Rattle.verdict.specs.Steps.{summed_rules, unsummed_rules};
 use packet_types::L4;
 
 // What is known of a checksum.
-#[derive(Drop)]
+#[derive(Clone, Copy)]
 pub enum Verdict {
     NotChecked,
     Good,
@@ -15,7 +15,7 @@ pub enum Verdict {
 }
 
 // What a write_back says of checksums: that the device processed them, what may have misled it, and its two error bits.
-#[derive(Drop)]
+#[derive(Clone, Copy)]
 pub struct Marks {
     pub l3l4p: bool,
     pub ipv6exadd: bool,

@@ -4,7 +4,7 @@ ghost use Rattle.words.specs.Parts.{end_of, is_silent, ReadNumbers};
 
 // What stands behind a command: whether all of it is numbers, and no more than there is room for;
 // and how many words it is.
-#[derive(Drop)]
+#[derive(Clone, Copy)]
 pub struct Numbers {
     pub ok: bool,
     pub count: usize,
