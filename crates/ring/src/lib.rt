@@ -1,5 +1,6 @@
 // The part of the queue record that the receive and the transmit queue have in common.
 #![tactic(auto)]
+
 ghost use Rattle.std.specs.Prelude.{◌≡◌};
 ghost use Rattle.ring.specs.Sizes.{counts_ok};
 ghost use Rattle.ring.specs.Queue.{Shared, ever_posted, ever_returned, shared_ok, slot_of, tail_of, register_at, no_room, empty_queue, advanced, grown, asked_of};

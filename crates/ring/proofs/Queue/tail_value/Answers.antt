@@ -1,0 +1,12 @@
+-- `Queue::tail_value` meets its contract: the judgement decides.
+-- Assumes nothing.
+use Rattle.ring.specs.Queue.{asked_of}
+use Rattle.ring.proofs.Queue.tail_value.Goals as goal
+
+pub returns-then-ok : goal.returns-then-ok
+unfolding asked_of
+returns-then-ok c = rw (c.if-ok.true, c.tail.ensures.is)
+
+pub returns-else-ok : goal.returns-else-ok
+unfolding asked_of
+returns-else-ok c = rw c.if-ok.false
