@@ -1,4 +1,6 @@
 // The three fields of a write-back's word 1 that a take decides by, each read at its place.
+#![tactic(auto)]
+
 ghost use Rattle.std.specs.Prelude.{◌≡◌};
 ghost use Rattle.field.specs.Field.{read_at, is_set};
 ghost use Rattle.places.specs.Places.{dd_place, eop_place, length_place};
