@@ -1,5 +1,7 @@
 // Word 1 of transmit descriptors, packed and taken apart with shifts and masks. Word 0 of a data descriptor is the address
 // and that of a context descriptor is 0, so neither needs a function.
+#![tactic(auto)]
+
 ghost use Rattle.std.specs.Prelude.{◌≡◌};
 ghost use Rattle.descriptor.specs.Words.{data_word, read_data, context_word, read_context};
 

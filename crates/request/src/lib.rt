@@ -1,4 +1,6 @@
 // The offload request of a send, its kinds' numbers, and word 1 of the descriptors that carry it.
+#![tactic(auto)]
+
 ghost use Rattle.std.specs.Prelude.{◌≡◌};
 ghost use Rattle.descriptor.specs.Words.{data_word, context_word};
 ghost use Rattle.request.specs.Request.{iipt_of, l4t_of, data_of, context_of};
