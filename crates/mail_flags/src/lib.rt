@@ -1,4 +1,6 @@
 // The flags of a mailbox element: a driver's packed into a word, the device's read from one, and whether those that must come back did.
+#![tactic(auto)]
+
 ghost use Rattle.std.specs.Prelude.{◌≡◌};
 ghost use Rattle.field.specs.Field.{is_set};
 ghost use Rattle.mail_flags.specs.Flags.{dd_flag, err_flag, buf_flag, flags_of, not_echoed};
