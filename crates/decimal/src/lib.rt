@@ -1,4 +1,6 @@
 // Decimal numbers as text, read from a word.
+#![tactic(auto)]
+
 ghost use Rattle.std.specs.Prelude.{◌≡◌};
 ghost use mathlib.Core.List.{foldl};
 ghost use Rattle.decimal.specs.Numbers.{is_digit, number_is, number_of, next_read};

@@ -1,4 +1,6 @@
 // Interrupt control words: a request becomes a register's offset and the word to write there.
+#![tactic(auto)]
+
 ghost use Rattle.std.specs.Prelude.{◌≡◌, ◌≤◌};
 ghost use Rattle.rules.specs.Rules.{any_of};
 ghost use Rattle.interrupt.specs.Interrupt.{is_on, is_off, is_leave, most_vector, wrongs, offset_of, interrupt_word, interrupt_of, fields_of};

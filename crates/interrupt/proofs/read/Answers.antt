@@ -2,12 +2,8 @@
 -- Assumes nothing.
 use Rattle.field.proofs.Laws.{got}
 use Rattle.interrupt.specs.Interrupt.{intena_line, clearpba_line, swint_trig_line, itr_indx_line, interval_line, sw_itr_indx_ena_line, sw_itr_indx_line, wb_on_itr_line, intena_msk_line, fields_of}
-use Rattle.interrupt.proofs.read.Statement.{statement}
-use Rattle.interrupt.proofs.read.Tie as tie
+use Rattle.interrupt.proofs.read.Goals as goal
 
-returns : tie.Need-returns
+pub returns : goal.returns
 unfolding fields_of
 returns c = simp (got intena_line, got clearpba_line, got swint_trig_line, got itr_indx_line, got interval_line, got sw_itr_indx_ena_line, got sw_itr_indx_line, got wb_on_itr_line, got intena_msk_line)
-
-pub read_spec : {M : Type 1} → statement M
-read_spec = tie.close (tie.spec returns)
