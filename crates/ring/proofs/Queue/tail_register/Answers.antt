@@ -1,6 +1,5 @@
 -- `Queue::tail_register` meets its contract: the judgement decides, and an accepted queue number is small.
 -- Assumes nothing.
-use Rattle.std.proofs.Common.{arith}
 use Rattle.ring.specs.Queue.{asked_of}
 use Rattle.ring.proofs.Queue.tail_register.Goals as goal
 
