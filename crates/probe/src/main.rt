@@ -38,23 +38,25 @@ fn start() -> State {
 }
 
 // What the next line says, where the memory holds one, or one read.
-fn listen(
+fn listen<R: Read, W: Write>(
+    input: &mut R,
+    output: &mut W,
     state: State,
     text: &mut [u8; TEXT],
     numbers: &mut [u64; NUMBERS],
     out: &[u8; PRINTED],
-) -> Heard {
+) -> io::Result<Heard> {
     let reading = state.reading;
-    let turn = reading::take_turn(reading, text, out, state.next);
+    let turn = reading::take_turn(input, output, reading, text, out, state.next)?;
     let line = turn.line;
     let reading = turn.reading;
     let said = forms::hear(line, text, numbers);
-    Heard {
+    Ok(Heard {
         said,
         line,
         reading,
         next: turn.next,
-    }
+    })
 }
 
 // Prints what a line is answered: at most one of the two has an answer.
@@ -81,7 +83,9 @@ fn reply(
 }
 
 // One line and its answer, or one read.
-fn step(
+fn step<R: Read, W: Write>(
+    input: &mut R,
+    output: &mut W,
     state: State,
     text: &mut [u8; TEXT],
     numbers: &mut [u64; NUMBERS],
@@ -97,8 +101,8 @@ fn step(
     mtx_list: &mut [u32; ELEMENTS],
     mbuf: &mut [u8; MAIL_BUFFER],
     out: &mut [u8; PRINTED],
-) -> State {
-    let heard = listen(state, text, numbers, out);
+) -> io::Result<State> {
+    let heard = listen(input, output, state, text, numbers, out)?;
     let said = heard.said;
     let bench = state.bench;
     let mail = state.mail;
@@ -106,12 +110,14 @@ fn step(
         said, bench, numbers, rx_ring, rx_list, burst_list, tx_ring, tokens, counts,
     );
     let mail = calls::mail::call(said, mail, mrx_ring, mrx_list, mtx_ring, mtx_list, mbuf);
-    reply(heard, bench, mail, text, out)
+    Ok(reply(heard, bench, mail, text, out))
 }
 
 // A proved loop has to end, and nothing says that the input does. So the loop counts its steps
 // down, from a number that no run uses up.
-fn run(
+fn run<R: Read, W: Write>(
+    input: &mut R,
+    output: &mut W,
     text: &mut [u8; TEXT],
     numbers: &mut [u64; NUMBERS],
     rx_ring: &mut [u64; RING],
@@ -126,11 +132,13 @@ fn run(
     mtx_list: &mut [u32; ELEMENTS],
     mbuf: &mut [u8; MAIL_BUFFER],
     out: &mut [u8; PRINTED],
-) {
+) -> io::Result<()> {
     let mut state = start();
     let mut steps = u64::MAX;
     while steps > 0 && state.reading.more {
         state = step(
+            input,
+            output,
             state, text, numbers, rx_ring, rx_list, burst_list, tx_ring, tokens, counts, mrx_ring,
             mrx_list, mtx_ring, mtx_list, mbuf, out,
         );
@@ -139,7 +147,9 @@ fn run(
     printing::write_out(out, state.next);
 }
 
-fn main() {
+fn main(rt: HostRuntime) -> io::Result<()> {
+    let mut input = rt.stdin();
+    let mut output = rt.stdout();
     let mut text = [0u8; TEXT];
     let mut numbers = [0u64; NUMBERS];
     let mut rx_ring = [0u64; RING];
@@ -155,6 +165,8 @@ fn main() {
     let mut mbuf = [0u8; MAIL_BUFFER];
     let mut out = [0u8; PRINTED];
     run(
+        &mut input,
+        &mut output,
         &mut text,
         &mut numbers,
         &mut rx_ring,
@@ -169,5 +181,5 @@ fn main() {
         &mut mtx_list,
         &mut mbuf,
         &mut out,
-    );
+    )
 }

@@ -2,7 +2,8 @@
 use crate::printing;
 use calls::printing::PRINTED;
 use feed::{Line, Lines};
-use libc::STDIN_FILENO;
+use std::io;
+use std::io::{Read, Write};
 
 // The longest line, with its end.
 pub(crate) const TEXT: usize = 524289;
@@ -32,13 +33,11 @@ pub(crate) fn start() -> Reading {
 }
 
 // Reads once, behind what is not used yet.
-fn read_behind(text: &mut [u8], at: usize) -> usize {
+fn read_behind<R: Read>(input: &mut R, text: &mut [u8], at: usize) -> io::Result<usize> {
     if at < text.len() {
-        let behind = &mut text[at..];
-        let got = libc::read(STDIN_FILENO, behind);
-        io::count(got, behind)
+        input.read(&mut text[at..])
     } else {
-        0
+        Ok(0)
     }
 }
 
@@ -70,30 +69,38 @@ fn got_more(line: Line, rest: Lines, got: usize, number: u64) -> Turn {
 }
 
 // No line is held whole: what is printed is written out, and more is read.
-fn read_on(line: Line, number: u64, text: &mut [u8; TEXT]) -> Turn {
+fn read_on<R: Read>(
+    input: &mut R,
+    line: Line,
+    number: u64,
+    text: &mut [u8; TEXT],
+) -> io::Result<Turn> {
     let lines = line.lines;
     let rest = feed::make_room(lines, text);
-    let got = read_behind(text, rest.end);
+    let got = read_behind(input, text, rest.end)?;
     if 0 < got {
-        got_more(line, rest, got, number)
+        Ok(got_more(line, rest, got, number))
     } else {
-        found(feed::last_line(rest), number, false, 0)
+        Ok(found(feed::last_line(rest), number, false, 0))
     }
 }
 
 // One line, or one read.
-pub(crate) fn take_turn(
+pub(crate) fn take_turn<R: Read, W: Write>(
+    input: &mut R,
+    output: &mut W,
     reading: Reading,
     text: &mut [u8; TEXT],
     out: &[u8; PRINTED],
     next: usize,
-) -> Turn {
+) -> io::Result<Turn> {
     let lines = reading.lines;
     let line = feed::next_line(lines, text);
     if line.found {
-        found(line, reading.number, true, printing::with_room(out, next))
+        let next = printing::with_room(output, out, next)?;
+        Ok(found(line, reading.number, true, next))
     } else {
-        printing::write_out(out, next);
-        read_on(line, reading.number, text)
+        printing::write_out(output, out, next)?;
+        read_on(input, line, reading.number, text)
     }
 }

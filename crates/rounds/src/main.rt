@@ -2,8 +2,18 @@
 // standard input asks for one run by seven numbers: the operation, 1 for an idle run (the same loop without the core), the
 // rounds, the ring's size, the pieces (or slots, or packets), the bytes behind the first piece, and the MSS (0: a plain send). For
 // each line comes out one number that depends on every result.
+#![tactic(auto)]
+
+ghost use Rattle.std.specs.Prelude.{◌≤◌, length, IfOk};
+
 mod interrupting;
 mod looking_up;
+
+use std::io;
+use std::io::{Print, Read};
+
+// The longest input.
+const TEXT: usize = 4096;
 
 const NUMBERS: usize = 7;
 
@@ -85,28 +95,45 @@ fn answer(line: Line) -> u64 {
     run(v[0], v[1] == 1, v[2], v[3], v[4], v[5], v[6])
 }
 
-fn print(line: Line) {
-    io::print_decimal(1, answer(line));
-    io::write_all(1, b"\n");
+fn print(rt: &impl Print, line: Line) -> io::Result<()> {
+    let told = answer(line);
+    println!(rt; "{told}")?;
+    Ok(())
 }
 
-fn answer_lines(text: &[u8]) {
+fn answer_lines(rt: &impl Print, text: &[u8]) -> io::Result<()> {
     let mut line = empty_line();
     let mut i = 0;
     while i < text.len() {
         let byte = text[i];
         if byte == b'\n' {
-            print(line);
+            print(rt, line)?;
             line = empty_line();
         } else {
             line = with_byte(line, byte);
         }
         i += 1;
     }
+    Ok(())
 }
 
-fn main() {
-    let mut text = io::buffer();
-    let n = io::read_full(0, &mut text);
-    answer_lines(&text[..n]);
+// Reads until the text is full or the input ends, and says how many bytes there are.
+fn read_full<R: Read>(input: &mut R, text: &mut [u8]) -> io::Result<usize>
+    ensures { IfOk result (λ n. n ≤ length text.new) }
+{
+    let mut done = 0;
+    while done < text.len() {
+        let n = input.read(&mut text[done..])?;
+        if n == 0 {
+            break;
+        }
+        done += n;
+    }
+    Ok(done)
+}
+
+fn main(rt: HostRuntime) -> io::Result<()> {
+    let mut text = [0u8; TEXT];
+    let n = read_full(&mut rt.stdin(), &mut text)?;
+    answer_lines(&rt, &text[..n])
 }
