@@ -47,16 +47,6 @@ toolchain() {
     [[ $found =~ $form ]] || fail "rt says that it is '$found', which is not of the form 'KIT logic NUMBER'"
     [ "${BASH_REMATCH[1]}" = "$logic" ] || fail "the toolchain is '$found', and toolchain.txt asks for '$wanted': this is another logic"
     [ "$found" = "$wanted" ] || echo "the kit is '${found%% *}' and not '${wanted%% *}'; its logic is the same, so the work goes on" >&2
-    keep_busy
-}
-
-# rt starts RT_JOBS checks, and waits for all of them before it starts more. With two for each processor none stands still while the longest of them ends.
-# A check needs up to 1 GB, so there are at most 8, unless RT_JOBS says so
-keep_busy() {
-    local processors
-    processors=$(nproc 2>/dev/null) || processors=1
-    [ -n "${RT_JOBS:-}" ] || RT_JOBS=$((processors < 4 ? 2 * processors : 8))
-    export RT_JOBS
 }
 
 # watched LOG COMMAND ..: runs rt with its whole output in LOG, and says as it goes which crate is proved, which edit refused and which program run; the
@@ -67,8 +57,9 @@ watched() {
     "$@" </dev/null 2>&1 | tee "$log" | progress
     states=("${PIPESTATUS[@]}")
     if [ "${states[0]}" -ne 0 ]; then
-        grep -v -e ': proved$' -e '^rt: [^ ]* proved (' -e '^rt: must-fail .*: refused, as it must be' -e '^rt: .* ran.*, and wrote what its file' \
-            -e '^logic' -e '^library ' -e '^linked ' -e '^note: no function ' -e '^[0-9]* passed, [0-9]* failed$' "$log"
+        grep -v -e ': proved$' -e '^rt: [^ ]* proved$' -e '^rt: must-fail .*: refused, as it must be' -e '^rt: .* ran.*, and wrote what its file' \
+            -e '^rt: .* is kept: ' -e '^rt: .*must-fail edits' -e '^rt: chose ' -e '^checked ' -e '^== ' -e '^empty contracts: 0 ' -e '^statements ' -e '^axioms ' \
+            -e '^logic' -e '^linked ' -e '^note: no function ' -e '^[0-9]* passed, [0-9]* failed$' "$log"
         return "${states[0]}"
     fi
     [ "${states[1]}" -eq 0 ] && [ "${states[2]}" -eq 0 ] || fail "the output could not be kept in $log, or not be shown"
@@ -79,18 +70,17 @@ progress() {
     local line count=0 open=''
     while IFS= read -r line || [ -n "$line" ]; do
         case $line in
-        *' proved (unchanged since '*) continue ;;
         'rt: must-fail '*': refused, as it must be'*)
             count=$((count + 1)) line=${line#rt: must-fail }
-            line="edit $count${edits:+ of $edits} refused: ${line%%:*}"
+            line="edit $count${edits:+ of $edits} refused: ${line%%.edit:*}"
             if [ -t 1 ]; then
                 printf '\r\033[K%s' "$line"
                 open=1
                 continue
             fi
             ;;
-        'rt: ok, '*) continue ;;
-        'rt: '*' proved ('* | 'rt: '*' ran'* | 'rt: must-fail '* | 'rt: '*'NOT PROVED'* | 'rt: '*FAILED*) line=${line#rt: } ;;
+        'rt: '*' is kept: '*) line="${line#rt: }" line="${line%% is kept: *} was proved before" ;;
+        'rt: '*' proved' | 'rt: '*' ran'* | 'rt: must-fail '* | 'rt: '*'NOT PROVED'* | 'rt: '*FAILED*) line=${line#rt: } ;;
         *) continue ;;
         esac
         [ -z "$open" ] || echo
@@ -100,15 +90,20 @@ progress() {
     [ -z "$open" ] || echo
 }
 
-# proved NAME: run a proved program, which is an x86-64 one; on another processor the toolchain's own emulator and loader run it
-proved() {
-    if [ "$(uname -m)" = x86_64 ]; then
-        "target/bin/$1"
-        return
+# program NAME: where rt puts a proved program; proved NAME: run it
+program() { echo "crates/$1/out/$1"; }
+proved() { "$(program "$1")"; }
+
+# built NAME LOG: proves the program NAME and what is below it, and builds it, where that was not done since the last change of a source
+built() {
+    local made newer
+    made=$(program "$1")
+    if [ -x "$made" ]; then
+        newer=$(find crates crates.txt -name out -prune -o -type f \( -name '*.rt' -o -name '*.antt' -o -name crates.txt \) -newer "$made" -print) || newer=all
+        [ -n "$newer" ] || return 0
     fi
-    local kit
-    kit=$(dirname "$(dirname "$(readlink -f "$(command -v rt)")")")/on/$(uname -m)/toolchain
-    "$kit/bin/qemu-x86_64" "$kit/lib/ld-linux-x86-64.so.2" --library-path "$kit/lib" "target/bin/$1"
+    running() { (cd "crates/$1" && rt run); }
+    watched "$2" running "$1"
 }
 
 # build_second: the second program, at target/second, where it is missing or older than its source
