@@ -1,4 +1,6 @@
 // The family of a received packet, by Intel's packet type number.
+#![tactic(auto)]
+
 ghost use Rattle.std.specs.Prelude.{◌≡◌};
 ghost use Rattle.family.specs.Types.{family_of, family_number};
 

@@ -1,4 +1,6 @@
 // What a packet type number tells of a received packet: Intel's Table 2-4, for all 256 numbers.
+#![tactic(auto)]
+
 ghost use Rattle.std.specs.Prelude.{◌≡◌};
 ghost use Rattle.family.specs.Types.{family_from};
 ghost use Rattle.packet_types.specs.Table.{entry_of, l4_number};

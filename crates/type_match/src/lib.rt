@@ -1,4 +1,6 @@
 // What a packet type number tells, by a match: for what asks for every packet, and cannot pay for a table that is built anew in each call.
+#![tactic(auto)]
+
 ghost use Rattle.std.specs.Prelude.{◌≡◌};
 ghost use Rattle.packet_types.specs.Table.{told, entry_of};
 
@@ -17,6 +19,7 @@ fn told(family: Family, version: u8, fragment: bool, l4: L4) -> Entry
 }
 
 // The entry that the table has.
+#[tactic(auto, unfolding(packet_types::specs::Table::entry_of))]
 pub fn entry_of(ptype: u8) -> Entry
     ensures { result ≡ entry_of ptype }
 {

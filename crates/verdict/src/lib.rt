@@ -1,4 +1,6 @@
 // Whether the checksums of a received packet may be believed: a verdict for L3 and one for L4, by its type and by what the device marked.
+#![tactic(auto)]
+
 ghost use Rattle.std.specs.Prelude.{◌≡◌};
 ghost use Rattle.packet_types.specs.declared.L4.TheVariants.{None};
 ghost use Rattle.verdict.specs.Verdict.{verdict_number, decided, typed, l3_of, l4_of};
@@ -40,6 +42,7 @@ pub fn verdict_number(verdict: Verdict) -> u64
 }
 
 // L3 of a packet of this IP version.
+#[tactic(auto, unfolding(crate::specs::Verdict::l3_of))]
 pub fn l3_verdict(version: u8, marks: Marks) -> Verdict
     ensures { result ≡ l3_of (typed version None) marks }
 {
@@ -86,6 +89,7 @@ fn unsummed(version: u8, marks: Marks) -> Verdict
 
 // L4 of a packet of this IP version and this kind. The kind is asked first: where the compiler inlines the look-up of the type, it joins
 // a match on the kind with it.
+#[tactic(auto, unfolding(crate::specs::Verdict::l4_of))]
 pub fn l4_verdict(version: u8, l4: L4, marks: Marks) -> Verdict
     ensures { result ≡ l4_of (typed version l4) marks }
 {
