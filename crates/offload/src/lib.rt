@@ -1,4 +1,6 @@
 // Answer 7 of a send: whether its request keeps its rules.
+#![tactic(auto)]
+
 ghost use Rattle.std.specs.Prelude.{◌≡◌, ◌<◌, ◌^◌};
 ghost use Rattle.rules.specs.Rules.{in_steps};
 ghost use Rattle.segments.specs.Touch.{total};

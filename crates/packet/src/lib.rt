@@ -1,4 +1,6 @@
 // A packet to be sent on its own: the answers that ask nothing of the queue but its maximum frame, 6 and 2 by its pieces, 7 by its request, 8 by its segments.
+#![tactic(auto)]
+
 ghost use Rattle.std.specs.Prelude.{◌≡◌};
 ghost use Rattle.rules.specs.Rules.{answer_of};
 ghost use Rattle.packet.specs.Packet.{is_over, packet_checks};

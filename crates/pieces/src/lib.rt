@@ -1,4 +1,6 @@
 // The pieces of a send: the answers 6 and 2, in one walk over them.
+#![tactic(auto)]
+
 ghost use Rattle.std.specs.Prelude.{◌≡◌, true, ◌<◌, min};
 ghost use Rattle.segments.specs.Steps.{sum_limit};
 ghost use Rattle.pieces.specs.Pieces.{most_pieces_of, lengths_ok, total_ok, found_if, found_of};

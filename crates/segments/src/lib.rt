@@ -1,5 +1,7 @@
 // Answer 8 of a segmented send: whether some segment touches over 8 pieces, in one walk over the pieces and with no loop
 // over the segments. The functions here are called by a send that has made the checks before; what these have shown is required.
+#![tactic(auto)]
+
 ghost use Rattle.std.specs.Prelude.{◌≡◌, ◌*◌, ◌/◌, ◌≤◌, ◌<◌, ◌^◌, min, length};
 ghost use Rattle.segments.specs.Touch.{header_pieces, start_of, total, header_within, is_crowded};
 ghost use Rattle.segments.specs.Steps.{sum_limit, Summed, Checked, Headed};
