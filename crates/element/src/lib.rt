@@ -1,4 +1,6 @@
 // An element of a mailbox ring: 32 bytes, written whole and read field for field.
+#![tactic(auto)]
+
 ghost use Rattle.std.specs.Prelude.{◌≡◌, ◌+◌, ◌*◌, ◌≤◌, length};
 ghost use Rattle.slots.specs.Memory.{store, read_from};
 ghost use Rattle.element.specs.Element.{element_bytes, element_at};

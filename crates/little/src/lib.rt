@@ -1,4 +1,6 @@
 // Bytes in memory: copied, and as numbers, the lowest byte first. A write and a read over the width, and the two widths that elements have.
+#![tactic(auto)]
+
 ghost use Rattle.std.specs.Prelude.{◌≡◌, ◌+◌, ◌≤◌, length};
 ghost use Rattle.slots.specs.Memory.{store_from, read_from};
 ghost use Rattle.little.specs.Little.{value_of, bytes_of};

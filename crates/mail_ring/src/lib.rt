@@ -1,4 +1,6 @@
 // What both mailbox rings share: the part of their records with its lines, the element put at the tail, and the one at head looked at.
+#![tactic(auto)]
+
 ghost use Rattle.std.specs.Prelude.{◌≡◌, length};
 ghost use Rattle.ring.specs.Queue.{asked_of};
 ghost use Rattle.mail_ring.specs.Ring.{ring_ok, lent_ok, empty_ring, tail_of, is_full, advanced};
