@@ -1,4 +1,6 @@
 // The command words.
+#![tactic(auto)]
+
 ghost use Rattle.std.specs.Prelude.{◌≡◌};
 ghost use Rattle.command.specs.Commands.{command_of, key_of, mail_keyed, keyed};
 
@@ -71,6 +73,7 @@ fn key_of(word: &[u8]) -> u64
 }
 
 // The command of the mailbox whose word has a number.
+#[tactic(auto, unfolding(crate::specs::Commands::mail_keyed))]
 fn mail_keyed(key: u64) -> Command
     ensures { result ≡ mail_keyed key }
 {
@@ -100,6 +103,7 @@ fn mail_keyed(key: u64) -> Command
 }
 
 // The command whose word has a number.
+#[tactic(auto, unfolding(crate::specs::Commands::keyed))]
 fn keyed(key: u64) -> Command
     ensures { result ≡ keyed key }
 {

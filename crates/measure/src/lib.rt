@@ -1,5 +1,7 @@
 // What the rounds of each operation share: a number over all results, the device's side of the rings, and the pieces of a packet. A part of the program
 // `rounds`: what it prints is compared.
+#![tactic(auto)]
+
 ghost use Rattle.std.specs.Prelude.{◌≤◌};
 
 pub mod checksum;

@@ -1,4 +1,6 @@
 // Lines and words of a script, and the numbers behind a command.
+#![tactic(auto)]
+
 ghost use Rattle.std.specs.Prelude.{◌≡◌, set};
 ghost use Rattle.words.specs.Parts.{end_of, is_silent, ReadNumbers};
 
