@@ -1,5 +1,7 @@
 // Many packets in one poll: the posted slots are walked packet by packet, on the record carried on. No packet is built and no word 0 is read: three
 // numbers tell a packet.
+#![tactic(auto)]
+
 ghost use Rattle.std.specs.Prelude.{◌≡◌, [], ◌∷◌, ◌+◌, ◌*◌, ◌≤◌, length};
 ghost use Rattle.std.proofs.lemmas.List.Edits.{sets};
 ghost use Rattle.ring.specs.Steps.{Reads};

@@ -25,10 +25,12 @@ use Rattle.scan.proofs.Walk.{not_done, not_allowed, allowed_last, allowed_on}
 module _ (buffer : ℕ) where
   -- a packet has a slot, and at most six
   pub has_some : (k : ℕ) (p : List Slot) → Complete buffer k p → 1 ≤ length p
+  has_some k [] c = elim c [ ]
   has_some k (s ∷ []) (ends w e) = omega arith
   has_some k (s ∷ p) (goes w e c) = omega arith
 
   pub has_few : (k : ℕ) (p : List Slot) → k < packet_slots → Complete buffer k p → k + length p ≤ packet_slots
+  has_few k [] h c = elim c [ ]
   has_few k (s ∷ []) h (ends w e) = omega arith
   has_few k (s ∷ p) h (goes w e c) =
       omega (arith, has_few (suc k) p (omega (arith, (goes_on_lem buffer k s.words (parts buffer k s.words w).1 e).1)) c)
@@ -36,6 +38,7 @@ module _ (buffer : ℕ) where
   -- a scan of slots that begin with a packet sees it whole
   pub is_seen : (k : ℕ) (p rest : List Slot) → Complete buffer k p → scan buffer k (p ++ rest) ≡ whole p
   unfolding and_then
+  is_seen k [] rest c = elim c [ ]
   is_seen k (s ∷ []) rest (ends w e) = let b = parts buffer k s.words w in allowed_last buffer k s rest b.0 b.1 e
   is_seen k (s ∷ p) rest (goes w e c) =
       let b = parts buffer k s.words w in
@@ -132,6 +135,7 @@ module _ (buffer : ℕ) where
   -- of a whole packet its slots
   reads_packet : (k : ℕ) (p rest : List Slot) → Complete buffer k p → examined buffer k (p ++ rest) ≡ length p
   unfolding examined goes_on
+  reads_packet k [] rest c = elim c [ ]
   reads_packet k (s ∷ []) rest (ends w e) = rw (w, e)
   reads_packet k (s ∷ p) rest (goes w e c) = rw (w, e) (ap suc (reads_packet (suc k) p rest c))
 

@@ -22,6 +22,7 @@ ends_more s (t ∷ r) e l = (e, l)
 module _ (buffer : ℕ) where
   -- a packet by the rule is one in 02's words
   pub as_worded : (k : ℕ) (p : List Slot) → k ≤ data_slots → Complete buffer k p → DataThenEmpty buffer k p
+  as_worded k [] h c = elim c [ ]
   as_worded k (s ∷ []) h (ends w e) =
       let b = parts buffer k s.words w in
       ⊎_elim

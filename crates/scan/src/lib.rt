@@ -1,4 +1,6 @@
 // What a take sees of the posted slots: what the device's rules allow in each, and what is handed up of a packet.
+#![tactic(auto)]
+
 ghost use Rattle.std.specs.Prelude.{◌≡◌};
 ghost use Rattle.scan.specs.Scan.{Look, allowed};
 ghost use Rattle.scan.specs.Told.{seen_by};

@@ -1,4 +1,6 @@
 // The walk of a take over the posted slots of a receive ring, from head upward, until one completes the packet or refuses.
+#![tactic(auto)]
+
 ghost use Rattle.std.specs.Prelude.{◌≡◌, length};
 ghost use Rattle.ring.specs.Steps.{Lent};
 ghost use Rattle.scan.specs.Slots.{posted_slots};

@@ -2,12 +2,8 @@
 -- Assumes nothing.
 use mathlib.Core.Path.{refl}
 use Rattle.scan.specs.Told.{sum, padded, last_words, seen_of, seen_by}
-use Rattle.scan.proofs.refused.Statement.{statement}
-use Rattle.scan.proofs.refused.Tie as tie
+use Rattle.scan.proofs.refused.Goals as goal
 
-returns : tie.Need-returns
+pub returns : goal.returns
 unfolding seen_by seen_of padded sum last_words
 returns c = refl
-
-pub refused_spec : {M : Type 1} → statement M
-refused_spec = tie.close (tie.spec returns)

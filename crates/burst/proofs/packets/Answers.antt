@@ -1,0 +1,24 @@
+-- `packets` meets its contract. The loop's invariant: so many packets are found and told (`Polling`); each way out is one law of it.
+-- Assumes nothing.
+use native.Mathlib.Omega.{arith}
+use Rattle.burst.proofs.Polling.{begins, at_limit, at_stop, goes_on, found_keeps}
+use Rattle.burst.proofs.packets.Goals as goal
+
+pub loop-packets-init : goal.loop-packets-init
+loop-packets-init c = begins _ _ _ _ _ c.requires
+
+pub overflow_add-examined : goal.overflow_add-examined
+overflow_add-examined c =
+    let asked = c.requires in
+    omega (arith, c.loop-packets.invariant.few, c.loop-packets.invariant.within, asked.limit_high, (found_keeps _ _ _ _ c.packet-found.ensures _ c.loop-packets.invariant.reads).1)
+
+pub returns-then-found-ne0 : goal.returns-then-found-ne0
+returns-then-found-ne0 c =
+    at_stop _ _ _ _ _ c.requires _ _ _ _ c.loop-packets.invariant (omega arith) _ c.packet-found.ensures c.if-found-ne0.true
+
+pub loop-packets-preserved : goal.loop-packets-preserved
+loop-packets-preserved c =
+    goes_on _ _ _ _ _ c.requires _ _ _ _ c.loop-packets.invariant (omega arith) _ c.packet-found.ensures c.if-found-ne0.false _ c.tell.ensures
+
+pub returns : goal.returns
+returns c = at_limit _ _ _ _ _ c.requires _ _ _ _ c.loop-packets.invariant (omega arith)
