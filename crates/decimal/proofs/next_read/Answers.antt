@@ -1,11 +1,8 @@
 -- `decimal::next_read` meets its contract. Assumes nothing.
-use lib.Dec.{leb}
 use Prim.Native.Nat.{◌^◌}
 use native.Mathlib.Omega.{arith}
-use borrow.Author.Tests.{leb-true, lt-ltb, le-ltb}
-use borrow.Author.Rules.{rules}
-use Rattle.decimal.specs.Numbers.{is_digit, next_read, one_more}
-use Rattle.decimal.proofs.Folds.{and_left, and_right}
+use borrow.Author.Tests.{lt-ltb, le-ltb}
+use Rattle.decimal.specs.Numbers.{next_read, one_more}
 use Rattle.decimal.proofs.next_read.Goals as goal
 
 pub returns-then-sofar-digit : goal.returns-then-sofar-digit

@@ -1,6 +1,5 @@
 -- `decimal::number_of` meets its contract. Assumes nothing.
 use lib.Dec.{lit<}
-use borrow.Author.Rules.{rules}
 use Rattle.decimal.specs.Numbers.{number_of}
 use Rattle.decimal.proofs.Reading.{read_is}
 use Rattle.decimal.proofs.number_of.Goals as goal

@@ -1,11 +1,9 @@
 -- `decimal::read` meets its contract. What is read so far, taken on over the rest of the word, gives the whole. Assumes nothing.
 use Prim.Native.Nat.{◌≤◌, ◌-◌}
-use mathlib.Core.Path.{◌≡◌, refl, sym, ◌∙◌}
+use mathlib.Core.Path.{◌≡◌}
 use mathlib.Core.List.{foldl}
-use native.Mathlib.Omega.{arith}
 use lib.ListN.{length, drop}
 use Rattle.decimal.specs.Numbers.{next_read, number_is}
-use Rattle.decimal.proofs.Folds.{fold_next, fold_end}
 use Rattle.decimal.proofs.read.Given as goal
 
 abbrev pub invariant-loop-i : goal.invariant-loop-i

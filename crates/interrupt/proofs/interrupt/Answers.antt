@@ -3,12 +3,9 @@
 use mathlib.Core.Path.{◌≡◌, sym, ◌∙◌}
 use mathlib.Core.Bool.{Bool, cond}
 use Rattle.rules.specs.Rules.{any_of}
-use Rattle.rules.proofs.Tests.{none}
 use Rattle.rules.proofs.Checks.{each_answer}
 use Rattle.interrupt.specs.declared.Request.{Request}
-use Rattle.interrupt.specs.Interrupt.{most_vector, wrongs, interrupt_answer, interrupt_of}
-use borrow.Author.Tests.{ltb-false}
-use borrow.Author.Rules.{rules}
+use Rattle.interrupt.specs.Interrupt.{wrongs, interrupt_answer, interrupt_of}
 use Rattle.interrupt.proofs.interrupt.Goals as goal
 
 -- what the code's test says of the answer
