@@ -1,4 +1,6 @@
 // The reader of one write-back: what the device wrote to a received slot, field for field.
+#![tactic(auto)]
+
 ghost use Rattle.std.specs.Prelude.{◌≡◌};
 ghost use Rattle.writeback.specs.WriteBack.{tag_of, hash_of, marks_of, write_back_of};
 
