@@ -1,4 +1,6 @@
 // Whether the packet at head is done: the answers of a reclaim whose record and slices have been judged.
+#![tactic(auto)]
+
 ghost use Rattle.std.specs.Prelude.{◌≡◌, eqb, length};
 ghost use Rattle.field.specs.Field.{field_of};
 ghost use Rattle.ring.specs.Steps.{Lent};

@@ -1,4 +1,6 @@
 // The descriptors of a send in the ring.
+#![tactic(auto)]
+
 ghost use Rattle.std.specs.Prelude.{◌≡◌, [], ◌∷◌, ◌+◌, ◌-◌, ◌*◌, ◌<◌, length};
 ghost use Rattle.slots.specs.Memory.{store, store_run};
 ghost use Rattle.slots.specs.Steps.{Step};
