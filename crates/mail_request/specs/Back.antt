@@ -1,6 +1,6 @@
 -- A request read back from its element. No contract cites this: it is what the calls' statements come to.
 -- Assumes nothing.
-use Rattle.std.specs.Prelude.{ℕ, ◌+◌, ◌*◌, ◌^◌, cond, length}
+use Rattle.std.specs.Prelude.{ℕ, ◌+◌, ◌*◌, ◌^◌, cond}
 use Rattle.field.specs.Field.{Line, part, is_set}
 use Rattle.element.specs.declared.Element.{Element}
 use Rattle.mail_flags.specs.Flags.{flags_in}

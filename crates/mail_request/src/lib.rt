@@ -1,4 +1,6 @@
 // What a driver asks of the mailbox, and the element that says it; lengths and addresses that cannot be.
+#![tactic(auto)]
+
 ghost use Rattle.std.specs.Prelude.{◌≡◌, cond, ◌≤◌};
 ghost use Rattle.rules.specs.Address.{address_wrong};
 ghost use Rattle.mail_request.specs.Request.{most_length, length_wrong, element_of, send_element, shutdown_element, room_element};
