@@ -1,4 +1,6 @@
 // Sums of lists, which stand for their contents.
+#![tactic(auto)]
+
 ghost use Rattle.std.specs.Prelude.{◌≡◌, take};
 ghost use Rattle.sum.specs.Sums.{mixed, sum_of};
 
