@@ -20,7 +20,7 @@ use Rattle.receive.specs.declared.Packet.{Packet}
 use Rattle.receive.specs.declared.Taken.{Taken}
 use Rattle.receive.proofs.Takes.{take_refused, hands_up}
 use Rattle.receive.proofs.Counts.{post_moves, take_moves}
-use Rattle.history.specs.World.{World, Event, post, poll, write, posted, post_at, take_at, after, reply, end, replies, AllAllowed, Start}
+use Rattle.history.specs.World.{World, Event, post, poll, write, post_at, take_at, after, reply, end, replies, AllAllowed, Start}
 use Rattle.history.specs.History.{if_done, accepted_at, accepted, packets_in, handed_up, returned}
 use Rattle.history.specs.Figures.{shown, Accepted, NotLower, StoodStill, Console}
 use Rattle.history.proofs.State.{after_accepted, after_refused, placed, room, fit_shared, start_empty, holds_start}

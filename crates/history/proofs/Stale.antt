@@ -4,7 +4,7 @@ use native.Mathlib.Omega.{arith}
 use mathlib.Core.Path.{◌≡◌, refl, sym, ap, ◌∙◌}
 use mathlib.Core.List.{List, [], ◌∷◌, ◌++◌, map}
 use lib.ListN.{length, length-append, length-map}
-use lib.Seq.{take_at, take-append_seam}
+use lib.Seq.{take_at as take_front, take-append_seam}
 use Rattle.places.specs.Words.{Words}
 use Rattle.receive.specs.declared.RxQueue.{RxQueue}
 use Rattle.receive.specs.declared.Packet.{Packet}
@@ -166,7 +166,7 @@ no_stale w es f t =
     record {
       left_over = λ v later s u. alike (end w es) v r.L' r.A' later r.holds s u;
       own_writes = r.tells ∙ ap (λ (ps : List (List Slot)). map packet_of ps) (sym up_slots);
-      each_once = ap row up_slots ∙ sym (rw r.logs (take_at (row r.up) r.L' _ (returned_length w es r)));
+      each_once = ap row up_slots ∙ sym (rw r.logs (take_front (row r.up) r.L' _ (returned_length w es r)));
       no_more = omega (arith, long, returned_length w es r, written_length w es r);
       after_post = omega (arith, (filled_short (accepted w es) (writes es)).0, written_length w es r);
       only_new = λ e. omega (arith, some_waits _ (waiting w es) (rw (is_next w es r) at e), ap length (is_split w es r), length-append (handed_up w es) (waiting w es));

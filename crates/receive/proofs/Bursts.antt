@@ -14,7 +14,7 @@ use lib.Seq.{get_or-append-add, get_or-drop}
 use Rattle.rules.specs.Rules.{within, ◌when◌}
 use Rattle.rules.proofs.Tests.{both, within_is}
 use Rattle.rules.proofs.Checks.{passed, asked_next, first_pass}
-use Rattle.scan.specs.Scan.{packet_slots, examined}
+use Rattle.scan.specs.Scan.{packet_slots}
 use Rattle.scan.specs.Told.{sum}
 use Rattle.burst.specs.declared.Polled.{Polled}
 use Rattle.burst.specs.Out.{most_packets, packet_numbers, burst_numbers}

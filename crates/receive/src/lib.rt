@@ -1,4 +1,6 @@
 // The receive queue of the driver core: fresh queues and the tail (queue), post, take, and burst, many packets in one poll (poll).
+#![tactic(auto)]
+
 use burst::PACKET_NUMBERS;
 use ring::Queue;
 use scan::PACKET_SLOTS;

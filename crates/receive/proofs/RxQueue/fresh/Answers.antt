@@ -1,0 +1,12 @@
+-- `RxQueue::fresh` meets its contract: the record's test decides.
+-- Assumes nothing.
+use Rattle.receive.specs.Queue.{fresh_of}
+use Rattle.receive.proofs.RxQueue.fresh.Goals as goal
+
+pub returns-then-record_ok : goal.returns-then-record_ok
+unfolding fresh_of
+returns-then-record_ok c = rw (← c.empty.ensures, ← c.record_ok.ensures, c.if-record_ok.true)
+
+pub returns-else-record_ok : goal.returns-else-record_ok
+unfolding fresh_of
+returns-else-record_ok c = rw (← c.empty.ensures, ← c.record_ok.ensures, c.if-record_ok.false, c.empty-else-record_ok.ensures)
