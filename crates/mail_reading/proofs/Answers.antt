@@ -40,7 +40,7 @@ module _ (wrong : Element → ℕ → Bool) (r : Ring) (ring list : List ℕ) (l
   -- an element that is read lies in the ring, and its length in the buffer
   module _ (z : answer_of read_checks ≡ 0) where
     pub read_inside : 32 * r.head + 16 ≤ length ring
-    read_inside = let l = seen_lent r ring list (read_looked z) in omega (arith, l.ring-long, l.is.head_below)
+    read_inside = let l = seen_lent r ring list (read_looked z) in omega (arith, l.ring_long, l.is.head_below)
 
     pub read_long : (head_element r ring list).length ≤ lent
     read_long =

@@ -1,4 +1,6 @@
 // What is read of an element that the device is done with: whether it is as it must be, its numbers, and the message, which stays where it lies.
+#![tactic(auto)]
+
 ghost use Rattle.std.specs.Prelude.{◌≡◌, cond, ◌≤◌, eqb};
 ghost use Rattle.rules.specs.Rules.{answer_of};
 ghost use Rattle.mail_reading.specs.Reading.{completion_wrong, message_wrong, element_checks, reading_of, no_reading};
