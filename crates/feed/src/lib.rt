@@ -1,4 +1,6 @@
 // Input that comes in pieces: the lines of a text of which a lent memory holds a part.
+#![tactic(auto)]
+
 ghost use Rattle.std.specs.Prelude.{◌≡◌, false, min};
 ghost use Rattle.feed.specs.Feeding.{no_lines, next_of, last_of, more_of, RoomMade, MovedDown};
 

@@ -1,4 +1,6 @@
 // Parts of a text.
+#![tactic(auto)]
+
 ghost use Rattle.std.specs.Prelude.{◌≡◌, take};
 ghost use Rattle.std.proofs.Math.Seq.{slice};
 

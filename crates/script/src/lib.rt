@@ -1,5 +1,7 @@
 // What the lines of a script share: how much memory a queue has, the first numbers of a line, the part of the record that both queues
 // have, as it is handed in and printed, and the numbers of an answer. A part of the program `probe`: what it prints is compared.
+#![tactic(auto)]
+
 ghost use Rattle.script.specs.Lent.{Lent};
 
 use ring::Queue;
