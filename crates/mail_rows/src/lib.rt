@@ -1,5 +1,7 @@
 // What the lines of the mailbox share: a ring as the bench holds it, the cookie as one number, and the rows of answers. A part of the
 // program `probe`: what it prints is compared.
+#![tactic(auto)]
+
 use mail_reading::Reading;
 use mail_ring::Ring;
 use ring::Asked;
