@@ -1,4 +1,6 @@
 // The transmit queue of the driver core: fresh queues and the tail (queue), send, reclaim.
+#![tactic(auto)]
+
 mod queue;
 mod reclaim;
 mod send;
