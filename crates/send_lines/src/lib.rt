@@ -1,5 +1,7 @@
 // The lines of a script that are for the transmit queue: its record, and how much of its memory is lent. A part of the program `probe`:
 // what it prints is compared.
+#![tactic(auto)]
+
 use command::Command;
 use request::{IpKind, L4Kind, Request};
 use ring::{Asked, Queue};
