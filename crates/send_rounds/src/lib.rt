@@ -1,4 +1,6 @@
 // Rounds of sending: sends, the device's mark in the last slot, and reclaims. A part of the program `rounds`: what it prints is compared.
+#![tactic(auto)]
+
 use measure::{MOST_SLOTS, checksum, device, pieces, within};
 use request::{IpKind, L4Kind, Request};
 use transmit::{Reclaimed, Sent, TxQueue};
