@@ -1,5 +1,7 @@
 // The send ring of the mailbox: fresh, tail, Send to PF, Queue Shutdown, and the oldest completion. The ring is a lent slice of 32 bytes an element, and a
 // companion list keeps what was posted, since the device writes over it.
+#![tactic(auto)]
+
 ghost use Rattle.std.specs.Prelude.{◌≡◌, length};
 ghost use Rattle.mail_reading.specs.Part.{PartIs};
 ghost use Rattle.mail_send.specs.Sending.{fresh_of, tail_value_of, tail_register_of, send_answer, SentAs, shutdown_answer, ShutAs, completion_of};
