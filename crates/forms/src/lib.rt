@@ -1,5 +1,7 @@
 // The forms of a line: how many numbers stand behind a command, and which are in range. A part of the program `probe`: what it prints is
 // compared.
+#![tactic(auto)]
+
 mod mail;
 
 use command::{Command, command_of};

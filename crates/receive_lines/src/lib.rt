@@ -1,5 +1,7 @@
 // The lines of a script that are for the receive queue and take no packet: its record, how much of its memory is lent, and posts. A part
 // of the program `probe`: what it prints is compared.
+#![tactic(auto)]
+
 use command::Command;
 use receive::{Posted, RxQueue};
 use ring::{Asked, Queue};
