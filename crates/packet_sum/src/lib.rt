@@ -1,4 +1,6 @@
 // One number over all that a take hands up. A part of the program `rounds`: what it prints is compared.
+#![tactic(auto)]
+
 use family::family_number;
 use measure::checksum::{byte, mix, number};
 use receive::{Packet, Taken};

@@ -1,4 +1,6 @@
 // What rounds of receiving share: how far a run has come, and a take of it. A part of the program `rounds`: what it prints is compared.
+#![tactic(auto)]
+
 use measure::checksum;
 use receive::{RxQueue, Taken};
 
