@@ -1,5 +1,7 @@
 // The lines of a script that take packets from the receive queue: take, and burst with its list. A part of the program `probe`: what it
 // prints is compared.
+#![tactic(auto)]
+
 use command::Command;
 use family::family_number;
 use receive::{Burst, Packet, Taken};
