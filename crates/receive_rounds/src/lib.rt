@@ -1,4 +1,6 @@
 // Rounds of receiving: posts, the device's write-backs, and takes. A part of the program `rounds`: what it prints is compared.
+#![tactic(auto)]
+
 use measure::{MOST_SLOTS, checksum, device, within};
 use receive::{Posted, RxQueue, Taken};
 use receive_run::Run;
