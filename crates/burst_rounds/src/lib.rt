@@ -1,4 +1,6 @@
 // Rounds of polling a ring that is full of packets of one slot: a burst a round, or as many takes. A part of the program `rounds`: what it prints is compared.
+#![tactic(auto)]
+
 use measure::{MOST_SLOTS, checksum, device, within};
 use receive::{BURST_NUMBERS, Burst, RxQueue, Taken};
 use receive_run::Run;
