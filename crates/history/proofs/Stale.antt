@@ -1,4 +1,4 @@
--- No stale write_back is believed, in every history of a fresh receive queue that the device's rules allow. Assumes nothing.
+-- No stale write-back is believed, in every history of a fresh receive queue that the device's rules allow. Assumes nothing.
 use Prim.Native.Nat.{ℕ, ◌+◌, ◌<◌}
 use native.Mathlib.Omega.{arith}
 use mathlib.Core.Path.{◌≡◌, refl, sym, ap, ◌∙◌}

@@ -1,4 +1,4 @@
--- No stale write_back is believed: what is left in a slot from an earlier lap, or from before the queue was fresh, is never handed
+-- No stale write-back is believed: what is left in a slot from an earlier lap, or from before the queue was fresh, is never handed
 -- up as a packet and changes no answer. Assumes nothing.
 use Rattle.std.specs.Prelude.{◌≤◌, ◌<◌, ◌≡◌, List, [], ◌∷◌, ◌++◌, map, length, take}
 use Rattle.scan.specs.Slots.{Slot}

@@ -21,7 +21,7 @@ pub record World : Type 0 where
   pub place : ℕ
   pub part : ℕ
 
--- post an address; take (here `poll`, since `take` is the library's word for the front of a list); one write_back of both words
+-- post an address; take (here `poll`, since `take` is the library's word for the front of a list); one write-back of both words
 pub data Event : Type 0 where
   post : ℕ → Event
   poll : Event

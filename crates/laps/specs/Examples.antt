@@ -1,5 +1,5 @@
 -- Histories computed over a ring of 32 slots: one that goes round the ring twice, a short one with everything in it, and writes that
--- are refused. All start on slices that another queue left: a whole packet's write_back in every slot. Assumes nothing.
+-- are refused. All start on slices that another queue left: a whole packet's write-back in every slot. Assumes nothing.
 use Rattle.std.specs.Prelude.{ℕ, zero, suc, ◌+◌, ◌*◌, ◌^◌, ◌≡◌, true, cond, List, [], ◌∷◌, ◌++◌, map, ltb, length, take, replicate}
 use Rattle.slots.specs.Slots.{run}
 use Rattle.ring.specs.Queue.{tail_of}
@@ -72,7 +72,7 @@ full = packets_from 32 (6 ∷ 5 ∷ 4 ∷ 3 ∷ 2 ∷ 1 ∷ 4 ∷ 3 ∷ 2 ∷ 1 
 abbrev pub rest : List (List Slot)
 rest = packets_from 63 (2 ∷ [])
 
--- One slot at a time. The take before its write looks at a slot just posted over an old write_back, and says 4. The take behind it
+-- One slot at a time. The take before its write looks at a slot just posted over an old write-back, and says 4. The take behind it
 -- says 4 within a packet, although an old one stands in the next slot, which is not posted.
 unfoldable pub one_by_one : List Slot → List Event
 one_by_one [] = []
@@ -118,7 +118,7 @@ along f w (e ∷ es) = f w e ++ along f (after w e) es
 abbrev pub round : List ℕ
 round = run (λ (s : ℕ). s) 32 0 32
 
--- in every slot of the ring, posted or not, stands a write_back
+-- in every slot of the ring, posted or not, stands a write-back
 abbrev pub AllWritten : World → Type 0
 AllWritten w = map (λ (s : ℕ). dd (slot_no w s).words) round ≡ replicate 32 true
 

@@ -4,7 +4,7 @@ use crate::MOST_SLOTS;
 // Bits 3:0 of word 1 in the last slot of a packet that is sent.
 const DONE: u64 = 15;
 
-// Word 1 of a write_back without its length: DD; in a last slot also EOP, L3L4P, FLTSTAT 3 and type 26.
+// Word 1 of a write-back without its length: DD; in a last slot also EOP, L3L4P, FLTSTAT 3 and type 26.
 const MIDDLE: u64 = 0x1;
 
 const LAST: u64 = 0x68000300B;
@@ -45,7 +45,7 @@ pub fn empty_word() -> u64 {
     LAST
 }
 
-// The write_back of a received slot, with a number of the packet's in word 0.
+// The write-back of a received slot, with a number of the packet's in word 0.
 pub fn write_back(ring: &mut [u64], at: usize, i: u64, word1: u64) {
     if at < MOST_SLOTS {
         set(ring, 2 * at, i << 32 | 0x123);

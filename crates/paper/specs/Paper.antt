@@ -103,7 +103,7 @@ pub record Paper : Type 0 where
   pub tcp_1000 : word1 (tcp false 0 0) (4096 ∷ []) (1000 ∷ []) 0 ≡ 0x00000FA142871670
   -- TLEN 3,000, MSS 1,460: context word 1
   pub context : word1 (tcp true 1460 3000) (4096 ∷ []) (3054 ∷ []) 0 ≡ 0x16D002EE00000011
-  -- write_back 0x000010068000000B: DD, EOP, L3L4P, type 26, length 64
+  -- write-back 0x000010068000000B: DD, EOP, L3L4P, type 26, length 64
   pub write_back : write_back_of (record { word0 = 0; word1 = 0x000010068000000B })
       ≡ record {
         tag = 0;

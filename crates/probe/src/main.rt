@@ -137,10 +137,8 @@ fn run<R: Read, W: Write>(
     let mut steps = u64::MAX;
     while steps > 0 && state.reading.more {
         state = step(
-            input,
-            output,
-            state, text, numbers, rx_ring, rx_list, burst_list, tx_ring, tokens, counts, mrx_ring,
-            mrx_list, mtx_ring, mtx_list, mbuf, out,
+            input, output, state, text, numbers, rx_ring, rx_list, burst_list, tx_ring, tokens,
+            counts, mrx_ring, mrx_list, mtx_ring, mtx_list, mbuf, out,
         );
         steps -= 1;
     }

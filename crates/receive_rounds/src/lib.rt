@@ -18,7 +18,7 @@ fn post(queue: RxQueue, ring: &mut [u64], list: &mut [u64], i: u64, idle: bool) 
     }
 }
 
-// One post, and the device's write_back.
+// One post, and the device's write-back.
 fn fill(run: Run, ring: &mut [u64], list: &mut [u64], i: u64, word1: u64, idle: bool) -> Run {
     let before = run.queue;
     let posted = post(before, ring, list, i, idle);

@@ -16,7 +16,7 @@ pub enum Verdict {
     Bad,
 }
 
-// What a write_back says of checksums: that the device processed them, what may have misled it, and its two error bits.
+// What a write-back says of checksums: that the device processed them, what may have misled it, and its two error bits.
 #[derive(Clone, Copy)]
 pub struct Marks {
     pub l3l4p: bool,

@@ -1,4 +1,4 @@
--- A write_back is read at its places alone, over position and width: bits that no place has change nothing that a reader returns, and bits put at a
+-- A write-back is read at its places alone, over position and width: bits that no place has change nothing that a reader returns, and bits put at a
 -- place are the number that is read there, with every other number as before.
 -- Assumes nothing.
 use Prim.Native.Nat.{ℕ, zero, suc, ◌+◌, ◌%◌, ◌^◌, ◌≤◌, ◌<◌}
@@ -88,7 +88,7 @@ pub own_bits : (ps : List Part) → T (rising 0 ps) → (i v w : ℕ) → T (ltb
     → reads_at ps (put_at ps i v w) ≡ set (reads_at ps w) i (v % 2 ^ (nth ps i).width)
 own_bits ps t i v w h = own_from ps 0 i v w t (ltb→lt i (length ps) h)
 
--- ---- the write_back
+-- ---- the write-back
 
 pub read_is : (x : Words) → write_back_of x ≡ made (reads_at places0 x.word0) (reads_at places1 x.word1)
 unfolding made write_back_of

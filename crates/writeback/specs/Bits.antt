@@ -1,4 +1,4 @@
--- A write_back as the numbers that its words have at their places: what "read field for field" is stated with, bit for bit.
+-- A write-back as the numbers that its words have at their places: what "read field for field" is stated with, bit for bit.
 -- Assumes nothing.
 use Rattle.std.specs.Prelude.{ℕ, Bool, cond, List, map, eqb, get_or}
 use Rattle.field.specs.Field.{field_of, Part, nth, replaced}
@@ -24,7 +24,7 @@ flag ns i = eqb (get_or ns i 0) 1
 abbrev pub marked : List ℕ → Marks
 marked ns = record { l3l4p = flag ns 3; ipv6exadd = flag ns 8; int_udp_0 = flag ns 9; ipe = flag ns 10; l4e = flag ns 11 }
 
--- the write_back whose words have these numbers at the places of word 0 and of word 1
+-- the write-back whose words have these numbers at the places of word 0 and of word 1
 unfoldable pub made : List ℕ → List ℕ → WriteBack
 made ms ns =
     record {

@@ -1,4 +1,4 @@
--- What the two verdicts of a write_back tell, and what they do not (02, "Say whether the checksum may be believed").
+-- What the two verdicts of a write-back tell, and what they do not (02, "Say whether the checksum may be believed").
 -- Assumes nothing.
 use Rattle.std.specs.Prelude.{ℕ, ◌≡◌, ◌≢◌, ◌⊎◌, true}
 use Rattle.field.specs.Field.{Line, replaced}

@@ -8,7 +8,7 @@ use family::Family;
 use type_match::entry_of;
 use verdict::{Marks, Verdict, l3_verdict, l4_verdict};
 
-// The fields of a write_back. A tag or a hash that is not there reads as 0; the two error bits of checksums are handed up as verdicts.
+// The fields of a write-back. A tag or a hash that is not there reads as 0; the two error bits of checksums are handed up as verdicts.
 #[derive(Clone, Copy)]
 pub struct WriteBack {
     pub tag: u16,

@@ -1,4 +1,6 @@
 // Runs of neighbouring pieces that are copied together. A plan is a list of run lengths, in pieces.
+#![tactic(auto)]
+
 ghost use Rattle.std.specs.Prelude.{◌≡◌, ◌+◌, ◌-◌, ◌≤◌, ◌<◌, min, cond, leb, eqb, length};
 ghost use Rattle.request.specs.Sound.{most_length};
 ghost use Rattle.segments.specs.Touch.{start_of};
