@@ -1,7 +1,10 @@
 -- `row::write_fields` meets its contract. The numbers written and those left are the whole row (`Written`). Assumes nothing.
 use native.Mathlib.Omega.{arith}
-use Rattle.row.proofs.Printing.{room_for, number_written, room_behind, row_written}
+use Rattle.row.proofs.Printing.{none_written, room_for, number_written, room_behind, row_written}
 use Rattle.row.proofs.write_fields.Goals as goal
+
+pub loop-i-init : goal.loop-i-init
+loop-i-init c = none_written
 
 pub bounds-out-place : goal.bounds-out-place
 bounds-out-place c = omega (arith, room_for c.requires c.loop-i.invariant (omega arith))

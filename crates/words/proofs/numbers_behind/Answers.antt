@@ -2,8 +2,11 @@
 use Prim.Native.Nat.{◌+◌}
 use native.Mathlib.Omega.{arith}
 use Rattle.words.proofs.Splits.{end_behind, end_inside}
-use Rattle.words.proofs.Progress.{one_more, all_read}
+use Rattle.words.proofs.Progress.{none_yet, one_more, all_read}
 use Rattle.words.proofs.numbers_behind.Goals as goal
+
+pub loop-at-init : goal.loop-at-init
+loop-at-init c = none_yet
 
 -- the word ends behind its start, within the line
 pub slice_bounds-number_of-count : goal.slice_bounds-number_of-count
