@@ -1,5 +1,7 @@
 // The receive ring of the mailbox: fresh, tail, posts, and the oldest message. The ring is a lent slice of 32 bytes an element, and a companion list keeps
 // what was posted, since the device writes over it.
+#![tactic(auto)]
+
 ghost use Rattle.std.specs.Prelude.{◌≡◌, length};
 ghost use Rattle.mail_reading.specs.Part.{PartIs};
 ghost use Rattle.mail_receive.specs.Receiving.{fresh_of, tail_value_of, tail_register_of, post_answer, PostedAs, message_of};
