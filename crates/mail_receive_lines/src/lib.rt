@@ -1,4 +1,6 @@
 // The lines of a script that are for the mailbox's receive ring. A part of the program `probe`: what it prints is compared.
+#![tactic(auto)]
+
 use command::Command;
 use mail_receive::{Posted, ReceiveRing, Received};
 use mail_request::Room;
