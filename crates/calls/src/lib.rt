@@ -1,5 +1,7 @@
 // Both queues and the mailbox, the calls that the lines of a script ask for, and their answers. A part of the program `probe`: what it
 // prints is compared.
+#![tactic(auto)]
+
 mod interrupts;
 pub mod mail;
 pub mod printing;
