@@ -1,5 +1,7 @@
 // The script bench: reads a script on standard input, makes its calls on queues and a mailbox held in
 // memory, and prints one line a call.
+#![tactic(auto)]
+
 mod printing;
 mod reading;
 
@@ -10,6 +12,8 @@ use feed::Line;
 use forms::Said;
 use reading::{Reading, TEXT};
 use script::{ELEMENTS, MAIL_BUFFER, MAIL_RING, NUMBERS, OUT, RING, SLOTS};
+use std::io;
+use std::io::{Read, Write};
 
 // What a line says, where the line stands, the rest of the input, and the place behind what is printed and not written out.
 #[derive(Clone, Copy)]
@@ -139,10 +143,10 @@ fn run<R: Read, W: Write>(
         state = step(
             input, output, state, text, numbers, rx_ring, rx_list, burst_list, tx_ring, tokens,
             counts, mrx_ring, mrx_list, mtx_ring, mtx_list, mbuf, out,
-        );
+        )?;
         steps -= 1;
     }
-    printing::write_out(out, state.next);
+    printing::write_out(output, out, state.next)
 }
 
 fn main(rt: HostRuntime) -> io::Result<()> {
