@@ -1,6 +1,7 @@
 -- `digits::has_room` meets its contract. Assumes nothing.
+use native.Mathlib.Omega.{arith}
 use Rattle.digits.proofs.Places.{fits_within}
 use Rattle.digits.proofs.has_room.Goals as goal
 
 pub returns-then-at-long : goal.returns-then-at-long
-returns-then-at-long c = fits_within _ _ _ c.if-at-long.true
+returns-then-at-long c = fits_within _ _ _ (omega arith)
