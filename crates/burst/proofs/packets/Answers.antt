@@ -1,7 +1,7 @@
 -- `packets` meets its contract. The loop's invariant: so many packets are found and told (`Polling`); each way out is one law of it.
 -- Assumes nothing.
 use native.Mathlib.Omega.{arith}
-use Rattle.burst.proofs.Polling.{begins, at_limit, at_stop, goes_on, found_keeps}
+use Rattle.burst.proofs.Polling.{begins, out_long, at_limit, at_stop, goes_on, found_keeps}
 use Rattle.burst.proofs.packets.Goals as goal
 
 pub loop-packets-init : goal.loop-packets-init
@@ -22,3 +22,10 @@ loop-packets-preserved c =
 
 pub returns : goal.returns
 returns c = at_limit _ _ _ _ _ c.requires _ _ _ _ c.loop-packets.invariant (omega arith)
+
+pub shape_of-out : goal.shape_of-out
+shape_of-out c = out_long _ _ _ _ _ c.requires _ _ _ _ c.loop-packets.invariant
+
+pub tell-requires : goal.tell-requires
+tell-requires c =
+    omega (arith, out_long _ _ _ _ _ c.requires _ _ _ _ c.loop-packets.invariant, c.requires.limit_high, c.requires.out_long)

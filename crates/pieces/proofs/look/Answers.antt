@@ -11,6 +11,7 @@ use Rattle.rules.specs.Rules.{within}
 use Rattle.rules.proofs.Tests.{and_both}
 use Rattle.pieces.specs.Pieces.{most_pieces_of, count_ok, lengths_ok, found_of}
 use Rattle.pieces.proofs.Laws.{counted, walked_is}
+use Rattle.pieces.proofs.Passed.{walkable}
 use Rattle.pieces.proofs.look.Goals as goal
 
 -- the count's test, as the definition has it
@@ -45,3 +46,8 @@ returns-else-walked c =
 pub returns-else-addresses-n : goal.returns-else-addresses-n
 unfolding found_of
 returns-else-addresses-n c = simp (sym c.most_pieces-most.ensures, c.if-addresses-n.false)
+
+pub walk-walked-requires : goal.walk-walked-requires
+walk-walked-requires c =
+    walkable c.args.addresses.now c.args.lengths.now c.args.request.segmented
+    (few_here c.args.addresses.now c.args.lengths.now c.args.request.segmented c.most_pieces-most.ensures c.if-addresses-n.true)
