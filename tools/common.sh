@@ -58,7 +58,7 @@ watched() {
     states=("${PIPESTATUS[@]}")
     if [ "${states[0]}" -ne 0 ]; then
         grep -v -e ': proved$' -e '^rt: [^ ]* proved$' -e '^rt: must-fail .*: refused, as it must be' -e '^rt: .* ran.*, and wrote what its file' \
-            -e '^rt: .* is kept: ' -e '^rt: .*must-fail edits' -e '^rt: chose ' -e '^checked ' -e '^== ' -e '^empty contracts: 0 ' -e '^statements ' -e '^axioms ' \
+            -e '^rt: .* is kept: ' -e '^rt: .*: trying its must-fail edits' -e '^rt: .*must-fail edits were tried' -e '^rt: chose ' -e '^checked ' -e '^== ' -e '^empty contracts: 0 ' -e '^statements ' -e '^axioms ' \
             -e '^logic' -e '^linked ' -e '^note: no function ' -e '^[0-9]* passed, [0-9]* failed$' "$log"
         return "${states[0]}"
     fi
@@ -94,12 +94,13 @@ progress() {
 program() { echo "crates/$1/out/$1"; }
 proved() { "$(program "$1")"; }
 
-# built NAME LOG: proves the program NAME and what is below it, and builds it, where that was not done since the last change of a source
+# built NAME LOG: proves the program NAME and what is below it, and builds it, where that was not done since the last change of a source, of a folder that
+# has some, or of the toolchain that is asked for
 built() {
     local made newer
     made=$(program "$1")
     if [ -x "$made" ]; then
-        newer=$(find crates crates.txt -name out -prune -o -type f \( -name '*.rt' -o -name '*.antt' -o -name crates.txt \) -newer "$made" -print) || newer=all
+        newer=$(find crates crates.txt toolchain.txt -name out -prune -o \( -path 'crates/*/*' -type d -o -name '*.rt' -o -name '*.antt' -o -name '*.txt' \) -newer "$made" -print) || newer=all
         [ -n "$newer" ] || return 0
     fi
     running() { (cd "crates/$1" && rt run); }
