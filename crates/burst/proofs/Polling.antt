@@ -7,10 +7,11 @@ use mathlib.Core.Bool.{cond}
 use mathlib.Core.List.{List, [], ◌∷◌, ◌++◌, append_assoc, append-nil}
 use native.Mathlib.Nat.{add-zero, zero-add, add_assoc, sub-zero}
 use native.Mathlib.Omega.{arith}
-use borrow.Author.Tests.{eq-eqb, ne_eqb}
-use lib.Dec.{eqb}
+use Rattle.std.specs.Prelude.{is_ok}
 use lib.ListN.{length, drop, length-append}
 use lib.Seq.{length-take-le, length_front, take_at, drop-append-add, drop-drop, sets, sets-eq}
+use Rattle.rules.specs.Rules.{Answer, done}
+use Rattle.rules.proofs.Answers.{done-is_ok, refused-is_ok}
 use Rattle.ring.specs.declared.Queue.{Queue}
 use Rattle.ring.specs.Steps.{Reads}
 use Rattle.ring.proofs.Record.{moved_on}
@@ -32,7 +33,7 @@ ahead_more : (n e m f : ℕ) (ns ms : List ℕ) (o : Outcome) → ahead n e ns (
 unfolding ahead
 ahead_more n e m f ns ms o = rw (add_assoc n m o.result.packets, add_assoc e f o.result.examined, append_assoc)
 
-ahead_stop : (n e : ℕ) (ns : List ℕ) (m : ℕ) (q : Queue) (f : ℕ)
+ahead_stop : (n e : ℕ) (ns : List ℕ) (m : Answer) (q : Queue) (f : ℕ)
     → ahead n e ns (stop m q f) ≡ record { result = record { answer = m; queue = q; packets = n; examined = e + f }; numbers = ns }
 unfolding ahead stop
 ahead_stop n e ns m q f = rw (add-zero, append-nil)
@@ -64,7 +65,7 @@ module _ (q : Queue) (buffer : ℕ) (ring : List ℕ) (f : Found) (found : Found
 
   -- the packets that may still come, by what is found
   opened : (n : ℕ) (list : List ℕ) → polls buffer ring list (suc n) q
-      ≡ cond (eqb f.answer 0) (ahead 1 f.examined (q.head ∷ f.count ∷ f.total ∷ []) (polls buffer ring list n f.queue)) (stop f.answer f.queue f.examined)
+      ≡ cond (is_ok f.answer) (ahead 1 f.examined (q.head ∷ f.count ∷ f.total ∷ []) (polls buffer ring list n f.queue)) (stop f.answer f.queue f.examined)
   unfolding polls
   opened n list = rw (found list)
 
@@ -100,7 +101,7 @@ module _ (start : Queue) (buffer : ℕ) (ring out₀ : List ℕ) (limit : ℕ) w
       pub out_long : length out ≡ length out₀
       out_long = ap length p.out_is ∙ written_long out₀ p.numbers numbers_fit
 
-      module _ (n f : ℕ) (r : Queue) (h : (list : List ℕ) → polls buffer ring list (limit - packets) q ≡ stop n r f) where
+      module _ (n : Answer) (f : ℕ) (r : Queue) (h : (list : List ℕ) → polls buffer ring list (limit - packets) q ≡ stop n r f) where
         all : (list : List ℕ) → polls buffer ring list limit start ≡ record { result = record { answer = n; queue = r; packets = packets; examined = e + f }; numbers = p.numbers }
         all list = p.so_far list ∙ rw (h list) (ahead_stop packets e p.numbers n r f)
 
@@ -109,22 +110,22 @@ module _ (start : Queue) (buffer : ℕ) (ring out₀ : List ℕ) (limit : ℕ) w
         stopped_as = record { result_is = λ list. rw (all list); out_is = λ list. p.out_is ∙ rw (all list) }
 
       -- the limit is reached
-      pub at_limit : limit ≤ packets → PolledAs start buffer ring out₀ limit (record { answer = 0; queue = q; packets = packets; examined = e }) out
+      pub at_limit : limit ≤ packets → PolledAs start buffer ring out₀ limit (record { answer = done; queue = q; packets = packets; examined = e }) out
       unfolding polls
       at_limit h =
           let z : limit - packets ≡ 0 = omega arith in
-          rw add-zero at (stopped_as 0 0 q (λ list. rw z))
+          rw add-zero at (stopped_as done 0 q (λ list. rw z))
 
       module _ (h : packets < limit) (f : Found) (found : FoundAs q buffer ring f) where
         one_more : limit - packets ≡ suc (limit - (packets + 1))
         one_more = omega arith
 
         -- none is found
-        pub at_stop : f.answer ≢ 0 → PolledAs start buffer ring out₀ limit (record { answer = f.answer; queue = f.queue; packets = packets; examined = e + f.examined }) out
-        at_stop ne = stopped_as f.answer f.examined f.queue (λ list. rw one_more (opened q buffer ring f found _ list ∙ rw (ne_eqb _ _ ne)))
+        pub at_stop : f.answer ≢ done → PolledAs start buffer ring out₀ limit (record { answer = f.answer; queue = f.queue; packets = packets; examined = e + f.examined }) out
+        at_stop ne = stopped_as f.answer f.examined f.queue (λ list. rw one_more (opened q buffer ring f found _ list ∙ rw (refused-is_ok _ ne)))
 
         -- one is
-        pub goes_on : f.answer ≡ 0 → (out' : List ℕ) → out' ≡ sets out (packet_numbers * packets) (q.head ∷ f.count ∷ f.total ∷ [])
+        pub goes_on : f.answer ≡ done → (out' : List ℕ) → out' ≡ sets out (packet_numbers * packets) (q.head ∷ f.count ∷ f.total ∷ [])
             → Polling out' f.queue (packets + 1) (e + f.examined)
         goes_on z out' o =
             let told : List ℕ = q.head ∷ f.count ∷ f.total ∷ [] in
@@ -138,5 +139,5 @@ module _ (start : Queue) (buffer : ℕ) (ring out₀ : List ℕ) (limit : ℕ) w
               so_far =
                   λ list.
                   p.so_far list
-                  ∙ rw one_more (rw (opened q buffer ring f found (limit - (packets + 1)) list, eq-eqb _ _ z) (ahead_more packets e 1 f.examined p.numbers told _));
+                  ∙ rw one_more (rw (opened q buffer ring f found (limit - (packets + 1)) list, done-is_ok _ z) (ahead_more packets e 1 f.examined p.numbers told _));
             }

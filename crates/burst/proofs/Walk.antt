@@ -5,6 +5,8 @@ use mathlib.Core.Path.{◌≡◌, ◌∙◌}
 use mathlib.Core.Bool.{Bool, true, false}
 use mathlib.Core.List.{List}
 use native.Mathlib.Omega.{arith}
+use Rattle.rules.specs.declared.Refusal.TheVariants.{NotYet, Contradiction}
+use Rattle.rules.specs.Rules.{done}
 use Rattle.ring.specs.declared.Queue.{Queue}
 use Rattle.ring.specs.Queue.{Shared, advanced}
 use Rattle.slots.specs.Memory.{numbers_at}
@@ -34,8 +36,8 @@ module _ (q : Queue) (buffer : ℕ) (ring : List ℕ) where
     found l e r h s x list = h ∙ rw (s list, x list)
 
     -- past the posted ones
-    pub end_found : q.posted ≤ k → (r : Found) → r ≡ found_by (refuse 4) q k → FoundAs q buffer ring r
-    end_found h r e = found (refuse 4) k r e (λ list. at_end q buffer ring list total k (w.walked list) h) (λ list. read_at_end q buffer ring list total k (w.walked list) h)
+    pub end_found : q.posted ≤ k → (r : Found) → r ≡ found_by (refuse NotYet) q k → FoundAs q buffer ring r
+    end_found h r e = found (refuse NotYet) k r e (λ list. at_end q buffer ring list total k (w.walked list) h) (λ list. read_at_end q buffer ring list total k (w.walked list) h)
 
     module _ (h : k < q.posted) where
       abbrev here : Words
@@ -44,21 +46,21 @@ module _ (q : Queue) (buffer : ℕ) (ring : List ℕ) where
       abbrev ok : Bool
       ok = allowed buffer k (record { word0 = 0; word1 = here.word1 })
 
-      pub clear_found : dd here ≡ false → (r : Found) → r ≡ found_by (refuse 4) q (k + 1) → FoundAs q buffer ring r
+      pub clear_found : dd here ≡ false → (r : Found) → r ≡ found_by (refuse NotYet) q (k + 1) → FoundAs q buffer ring r
       clear_found d r e =
-          found (refuse 4) (k + 1) r e
+          found (refuse NotYet) (k + 1) r e
           (λ list. at_clear q buffer ring list total k (w.walked list) h at w.behind.is d)
           (λ list. read_at_clear q buffer ring list total k (w.walked list) h at w.behind.is d)
 
-      pub wrong_found : dd here ≡ true → ok ≡ false → (r : Found) → r ≡ found_by (refuse 5) q (k + 1) → FoundAs q buffer ring r
+      pub wrong_found : dd here ≡ true → ok ≡ false → (r : Found) → r ≡ found_by (refuse Contradiction) q (k + 1) → FoundAs q buffer ring r
       wrong_found d a r e =
-          found (refuse 5) (k + 1) r e
+          found (refuse Contradiction) (k + 1) r e
           (λ list. at_wrong q buffer ring list total k (w.walked list) h at w.behind.is d a)
           (λ list. read_at_wrong q buffer ring list total k (w.walked list) h at w.behind.is d a)
 
       -- the packet is complete
       pub whole_found : dd here ≡ true → ok ≡ true → eop here ≡ true
-          → FoundAs q buffer ring (record { answer = 0; queue = advanced q (k + 1); count = k + 1; total = total + length_of here; examined = k + 1 })
+          → FoundAs q buffer ring (record { answer = done; queue = advanced q (k + 1); count = k + 1; total = total + length_of here; examined = k + 1 })
       unfolding found_by
       whole_found d a e list =
           rw (complete q buffer ring list total k (w.walked list) h at w.behind.is d a e, read_complete q buffer ring list total k (w.walked list) h at w.behind.is d a e)

@@ -1,6 +1,7 @@
 -- A burst on the record's shared part, packet by packet: what the walks of the code come to. Receive's `burst_of` says the same by takes.
 -- Assumes nothing.
-use Rattle.std.specs.Prelude.{ℕ, zero, suc, ◌+◌, cond, List, [], ◌∷◌, ◌++◌, eqb, length}
+use Rattle.std.specs.Prelude.{ℕ, zero, suc, ◌+◌, cond, List, [], ◌∷◌, ◌++◌, length, Err, is_ok}
+use Rattle.rules.specs.Rules.{Answer, done}
 use Rattle.ring.specs.declared.Queue.{Queue}
 use Rattle.ring.specs.Queue.{advanced}
 use Rattle.scan.specs.Slots.{posted_slots}
@@ -11,8 +12,8 @@ use Rattle.burst.specs.declared.Polled.{Polled}
 
 -- what is found, by what a scan sees and how many slots it examines
 unfoldable pub found_by : Look → Queue → ℕ → Found
-found_by (refuse n) q e = record { answer = n; queue = q; count = 0; total = 0; examined = e }
-found_by (whole p) q e = record { answer = 0; queue = advanced q (length p); count = length p; total = sum (lengths_of p); examined = e }
+found_by (refuse r) q e = record { answer = Err r; queue = q; count = 0; total = 0; examined = e }
+found_by (whole p) q e = record { answer = done; queue = advanced q (length p); count = length p; total = sum (lengths_of p); examined = e }
 
 abbrev pub found_in : ℕ → List ℕ → List ℕ → Queue → Found
 found_in buffer ring list q =
@@ -24,8 +25,8 @@ pub record Outcome : Type 0 where
   pub result : Polled
   pub numbers : List ℕ
 
-unfoldable pub stop : ℕ → Queue → ℕ → Outcome
-stop n q e = record { result = record { answer = n; queue = q; packets = 0; examined = e }; numbers = [] }
+unfoldable pub stop : Answer → Queue → ℕ → Outcome
+stop a q e = record { result = record { answer = a; queue = q; packets = 0; examined = e }; numbers = [] }
 
 -- so many packets, slots examined and numbers before the others
 unfoldable pub ahead : ℕ → ℕ → List ℕ → Outcome → Outcome
@@ -38,9 +39,9 @@ ahead packets e numbers o =
 
 -- at most n packets, each told by head before it, its slot count and its total length, until none is found
 unfoldable pub polls : ℕ → List ℕ → List ℕ → ℕ → Queue → Outcome
-polls buffer ring list zero q = stop 0 q 0
+polls buffer ring list zero q = stop done q 0
 polls buffer ring list (suc n) q =
     let f = found_in buffer ring list q in
-    cond (eqb f.answer 0)
+    cond (is_ok f.answer)
     (ahead 1 f.examined (q.head ∷ f.count ∷ f.total ∷ []) (polls buffer ring list n f.queue))
     (stop f.answer f.queue f.examined)

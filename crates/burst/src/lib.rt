@@ -11,35 +11,37 @@ ghost use Rattle.burst.specs.Polls.{found_by};
 ghost use Rattle.burst.specs.Steps.{Polls, FoundAs, PolledAs};
 
 use ring::Queue;
+use rules::{Answer, Refusal};
 
 // What tells a packet: its first slot, its slot count, its total length.
 pub const PACKET_NUMBERS: usize = 3;
 
 // What a walk finds: the answer, the record's shared part after it, of a packet the slot count and the total length, and the slots examined.
-#[derive(Clone, Copy)]
+// Kept: zeros and the slots examined beside a refusal, since the contracts of packet and packets say both (found_by).
+#[derive(Clone, Copy, Debug, PartialEq, Eq)]
 pub struct Found {
-    pub answer: u8,
+    pub answer: Answer,
     pub queue: Queue,
     pub count: usize,
     pub total: usize,
     pub examined: usize,
 }
 
-// What a burst gives: the number that stopped it, the record's shared part after it, the packets told and the slots examined.
-#[derive(Clone, Copy)]
+// What a burst gives: the answer that stopped it, the record's shared part after it, the packets told and the slots examined.
+#[derive(Clone, Copy, Debug, PartialEq, Eq)]
 pub struct Polled {
-    pub answer: u8,
+    pub answer: Answer,
     pub queue: Queue,
     pub packets: usize,
     pub examined: usize,
 }
 
 // A refusal: the record as it came, and no packet.
-fn refused(queue: Queue, answer: u8, examined: usize) -> Found
-    ensures { result ≡ found_by (Look.refuse answer) queue examined }
+fn refused(queue: Queue, refusal: Refusal, examined: usize) -> Found
+    ensures { result ≡ found_by (Look.refuse refusal) queue examined }
 {
     Found {
-        answer,
+        answer: Err(refusal),
         queue,
         count: 0,
         total: 0,
@@ -47,38 +49,36 @@ fn refused(queue: Queue, answer: u8, examined: usize) -> Found
     }
 }
 
-// Answers 4 or 5 at the first slot that asks for it, or 0 with the packet's two numbers: a take's scan, without what it builds. It goes from slot to
-// slot, and the slot that it comes to is the next head.
+// Answers 4 or 5 at the first slot that asks for it, or the packet's two numbers: a take's scan, without what it builds. It goes from slot to slot,
+// and the slot that it comes to is the next head.
 fn packet(queue: Queue, buffer: usize, ring: &[u64]) -> Found
     requires { Reads queue (length ring.now) }
     ensures { FoundAs queue buffer ring.now result }
 {
     let mut at = queue.head;
     let mut total: usize = 0;
-    let mut k: usize = 0;
-    while k < queue.posted {
+    for k in 0..queue.posted {
         let word1 = ring[2 * at + 1];
         if !places::dd(word1) {
-            return refused(queue, 4, k + 1);
+            return refused(queue, Refusal::NotYet, k + 1);
         }
         if scan::slot_ok(buffer, k, word1) {
             at = slots::next(at, queue.size);
             total += places::length(word1);
-            k += 1;
             if places::eop(word1) {
                 return Found {
-                    answer: 0,
-                    queue: queue.moved_to(at, k),
-                    count: k,
+                    answer: Ok(()),
+                    queue: queue.moved_to(at, k + 1),
+                    count: k + 1,
                     total,
-                    examined: k,
+                    examined: k + 1,
                 };
             }
         } else {
-            return refused(queue, 5, k + 1);
+            return refused(queue, Refusal::Contradiction, k + 1);
         }
     }
-    refused(queue, 4, k)
+    refused(queue, Refusal::NotYet, queue.posted)
 }
 
 // The three numbers of packet i.
@@ -98,14 +98,13 @@ pub fn packets(start: Queue, buffer: usize, ring: &[u64], out: &mut [u64], limit
     ensures { PolledAs start buffer ring.now out.old limit result out.new }
 {
     let mut queue = start;
-    let mut packets: usize = 0;
     let mut examined: usize = 0;
-    while packets < limit {
+    for packets in 0..limit {
         let first = queue.head;
         let found = packet(queue, buffer, ring);
         queue = found.queue;
         examined += found.examined;
-        if found.answer != 0 {
+        if found.answer.is_err() {
             return Polled {
                 answer: found.answer,
                 queue,
@@ -114,12 +113,11 @@ pub fn packets(start: Queue, buffer: usize, ring: &[u64], out: &mut [u64], limit
             };
         }
         tell(out, packets, first, found.count, found.total);
-        packets += 1;
     }
     Polled {
-        answer: 0,
+        answer: Ok(()),
         queue,
-        packets,
+        packets: limit,
         examined,
     }
 }

@@ -1,32 +1,45 @@
 // Rounds of polling a ring that is full of packets of one slot: a burst a round, or as many takes. A part of the program `rounds`: what it prints is compared.
 #![tactic(auto)]
 
-use measure::{MOST_SLOTS, checksum, device, within};
+use measure::checksum::Sum;
+use measure::{MOST_SLOTS, device, within};
 use receive::{BURST_NUMBERS, Burst, RxQueue, Taken};
 use receive_run::Run;
 use ring::Queue;
 
+// How the packets of a round are handed up: by a burst, or by as many takes.
+#[derive(Clone, Copy, Debug, PartialEq, Eq)]
+pub enum By {
+    Burst,
+    Takes,
+}
+
+// What a run is asked with.
+#[derive(Clone, Copy)]
+struct Asked {
+    packets: usize,
+    by: By,
+    idle: bool,
+    rounds: u64,
+}
+
 // A packet in each slot of the ring.
 fn fill(ring: &mut [u64], size: usize) {
-    let mut at = 0;
-    while at < size {
+    for at in 0..size {
         let i = at as u64;
         device::write_back(ring, at, i, device::last_word(i));
-        at += 1;
     }
 }
 
 // Ever posted moves with posted, so that the record stays right, and by a difference, so that no compiler knows that it does.
 fn with_posted(queue: RxQueue, posted: usize) -> RxQueue {
-    let more = std::num::wrapping_sub_u64(posted as u64, queue.shared.posted as u64);
+    let shared = queue.shared;
+    let more = (posted as u64).wrapping_sub(shared.posted as u64);
     RxQueue {
         shared: Queue {
-            queue: queue.shared.queue,
-            size: queue.shared.size,
-            head: queue.shared.head,
             posted,
-            ever_posted: std::num::wrapping_add_u64(queue.shared.ever_posted, more),
-            ever_returned: queue.shared.ever_returned,
+            ever_posted: shared.ever_posted.wrapping_add(more),
+            ..shared
         },
         buffer: queue.buffer,
     }
@@ -36,26 +49,19 @@ fn with_posted(queue: RxQueue, posted: usize) -> RxQueue {
 fn with_packets(run: Run, ring: &mut [u64], packets: usize, i: u64) -> Run {
     let queue = run.queue;
     device::write_back(ring, queue.shared.head, i, device::last_word(i));
-    let queue = with_posted(queue, packets);
     Run {
-        queue,
+        queue: with_posted(queue, packets),
         sum: run.sum,
         at: run.at,
     }
 }
 
 // A burst; in an idle run the numbers of one that takes every packet.
-fn burst(
-    queue: RxQueue,
-    ring: &[u64],
-    list: &[u64],
-    out: &mut [u64],
-    packets: usize,
-    idle: bool,
-) -> Burst {
-    if idle {
+fn burst(queue: RxQueue, ring: &[u64], list: &[u64], out: &mut [u64], asked: Asked) -> Burst {
+    let packets = asked.packets;
+    if asked.idle {
         Burst {
-            answer: 0,
+            answer: Ok(()),
             queue,
             packets,
             examined: packets,
@@ -66,10 +72,11 @@ fn burst(
 }
 
 // The whole list is summed up, whatever of it the burst wrote.
-fn summed(sum: u64, polled: Burst, out: &[u64; BURST_NUMBERS]) -> u64 {
-    let sum = checksum::byte(sum, polled.answer);
-    let sum = checksum::number(checksum::number(sum, polled.packets), polled.examined);
-    checksum::lent(sum, out)
+fn summed(sum: Sum, polled: Burst, out: &[u64; BURST_NUMBERS]) -> Sum {
+    sum.with(polled.answer)
+        .with(polled.packets)
+        .with(polled.examined)
+        .with_each(out)
 }
 
 fn hand_up_burst(
@@ -77,82 +84,50 @@ fn hand_up_burst(
     ring: &[u64],
     list: &[u64],
     out: &mut [u64; BURST_NUMBERS],
-    packets: usize,
-    idle: bool,
+    asked: Asked,
 ) -> Run {
-    let before = run.queue;
-    let polled = burst(before, ring, list, out, packets, idle);
-    let queue = polled.queue;
+    let polled = burst(run.queue, ring, list, out, asked);
     Run {
-        queue,
+        queue: polled.queue,
         sum: summed(run.sum, polled, out),
         at: run.at,
     }
 }
 
-fn repeat_bursts(
-    begun: Run,
-    ring: &mut [u64],
-    list: &[u64],
-    packets: usize,
-    idle: bool,
-    rounds: u64,
-) -> Run {
+fn repeat_bursts(begun: Run, ring: &mut [u64], list: &[u64], asked: Asked) -> Run {
     let mut out = [0u64; BURST_NUMBERS];
     let mut run = begun;
-    let mut i = 0;
-    while i < rounds {
-        run = with_packets(run, ring, packets, i);
-        run = hand_up_burst(run, ring, list, &mut out, packets, idle);
-        i += 1;
+    for i in 0..asked.rounds {
+        run = with_packets(run, ring, asked.packets, i);
+        run = hand_up_burst(run, ring, list, &mut out, asked);
     }
     run
 }
 
-// A take, and the sum over it. Receiving and polling have one each: a shared one would be called and not inlined, and cost a round 46 instructions more.
+// A take, and the sum over it.
+// Kept: receive_rounds has its own; a shared one cost a take here 25 instructions more (13,548 a round of 32 against 12,760).
 fn hand_up(run: Run, ring: &[u64], list: &[u64], seen: Taken, idle: bool) -> Run {
-    let before = run.queue;
-    let taken = receive_run::take(before, ring, list, seen, idle);
-    let queue = taken.queue;
+    let taken = run.take(ring, list, seen, idle);
     Run {
-        queue,
+        queue: taken.queue,
         sum: packet_sum::taken(run.sum, taken),
         at: run.at,
     }
 }
 
-fn hand_up_each(
-    begun: Run,
-    ring: &[u64],
-    list: &[u64],
-    seen: Taken,
-    packets: usize,
-    idle: bool,
-) -> Run {
+fn hand_up_each(begun: Run, ring: &[u64], list: &[u64], seen: Taken, asked: Asked) -> Run {
     let mut run = begun;
-    let mut k = 0;
-    while k < packets {
-        run = hand_up(run, ring, list, seen, idle);
-        k += 1;
+    for _ in 0..asked.packets {
+        run = hand_up(run, ring, list, seen, asked.idle);
     }
     run
 }
 
-fn repeat_takes(
-    begun: Run,
-    ring: &mut [u64],
-    list: &[u64],
-    seen: Taken,
-    packets: usize,
-    idle: bool,
-    rounds: u64,
-) -> Run {
+fn repeat_takes(begun: Run, ring: &mut [u64], list: &[u64], seen: Taken, asked: Asked) -> Run {
     let mut run = begun;
-    let mut i = 0;
-    while i < rounds {
-        run = with_packets(run, ring, packets, i);
-        run = hand_up_each(run, ring, list, seen, packets, idle);
-        i += 1;
+    for i in 0..asked.rounds {
+        run = with_packets(run, ring, asked.packets, i);
+        run = hand_up_each(run, ring, list, seen, asked);
     }
     run
 }
@@ -160,66 +135,37 @@ fn repeat_takes(
 // The packet that an idle run sums up, one that no compiler knows.
 fn one_packet(begun: Run, ring: &mut [u64], list: &[u64], rounds: u64) -> Taken {
     let waiting = with_packets(begun, ring, 1, rounds);
-    let queue = waiting.queue;
-    queue.take(ring, list)
+    waiting.queue.take(ring, list)
 }
 
-// The packets of each round, handed up by a burst or singly.
-fn repeat(
-    begun: Run,
-    ring: &mut [u64],
-    list: &[u64],
-    packets: usize,
-    singly: bool,
-    idle: bool,
-    rounds: u64,
-) -> Run {
-    if singly {
-        let seen = one_packet(begun, ring, list, rounds);
-        repeat_takes(begun, ring, list, seen, packets, idle, rounds)
-    } else {
-        repeat_bursts(begun, ring, list, packets, idle, rounds)
+fn repeat(begun: Run, ring: &mut [u64], list: &[u64], asked: Asked) -> Run {
+    match asked.by {
+        By::Burst => repeat_bursts(begun, ring, list, asked),
+        By::Takes => {
+            let seen = one_packet(begun, ring, list, asked.rounds);
+            repeat_takes(begun, ring, list, seen, asked)
+        }
     }
 }
 
-fn answer(
-    ring: &mut [u64],
-    list: &[u64],
-    packets: usize,
-    singly: bool,
-    idle: bool,
-    rounds: u64,
-) -> u64 {
+fn answer(ring: &mut [u64], list: &[u64], asked: Asked) -> u64 {
     fill(ring, list.len());
-    let begun = receive_run::start(list.len());
-    receive_run::end(
-        repeat(begun, ring, list, packets, singly, idle, rounds),
-        ring,
-    )
+    let begun = Run::start(list.len());
+    repeat(begun, ring, list, asked).end(ring)
 }
 
-fn polled(size: u64, packets: u64, singly: bool, idle: bool, rounds: u64) -> u64 {
+// So many rounds on a ring of so many slots, so many packets a round.
+pub fn rounds(size: u64, packets: u64, by: By, idle: bool, rounds: u64) -> u64 {
     let mut ring = [0u64; 2 * MOST_SLOTS];
     let list = [0u64; MOST_SLOTS];
     let size = within(size, MOST_SLOTS);
     let words = 2 * size;
     let packets = within(packets, MOST_SLOTS);
-    answer(
-        &mut ring[..words],
-        &list[..size],
+    let asked = Asked {
         packets,
-        singly,
+        by,
         idle,
         rounds,
-    )
-}
-
-// So many rounds on a ring of so many slots, a burst of so many packets a round.
-pub fn bursts(size: u64, packets: u64, idle: bool, rounds: u64) -> u64 {
-    polled(size, packets, false, idle, rounds)
-}
-
-// The same rounds, by as many takes.
-pub fn takes(size: u64, packets: u64, idle: bool, rounds: u64) -> u64 {
-    polled(size, packets, true, idle, rounds)
+    };
+    answer(&mut ring[..words], &list[..size], asked)
 }

@@ -1,11 +1,8 @@
 -- A burst counts as its takes, and so demand 3 and the console's law carry over to histories with bursts. Assumes nothing.
-use Prim.Native.Nat.{ℕ, zero, suc}
-use mathlib.Core.Path.{◌≡◌, refl, sym, ap, ◌∙◌}
-use mathlib.Core.Bool.{Bool, true, false, cond}
-use mathlib.Core.List.{List, [], ◌∷◌, ◌++◌, map, append-nil}
-use borrow.Author.Tests.{eq-eqb, ne_eqb}
-use lib.Dec.{eqb}
-use lib.ListN.{length, drop, replicate}
+use Rattle.std.proofs.Common.{ℕ, zero, suc, ◌≡◌, refl, sym, ap, ◌∙◌, Bool, true, false, cond, List, [], ◌∷◌, ◌++◌, map, append-nil, length, drop, replicate, Err, is_ok}
+use Rattle.rules.specs.declared.Refusal.TheVariants.{NotYet}
+use Rattle.rules.specs.Rules.{done}
+use Rattle.rules.proofs.Answers.{done-is_ok, refused-is_ok}
 use Rattle.slots.proofs.Runs.{run_take}
 use Rattle.scan.specs.Slots.{slot_in, posted_slots}
 use Rattle.receive.specs.declared.RxQueue.{RxQueue}
@@ -72,7 +69,7 @@ packets_of ms = map (λ (m : Made). m.taken.packet) (handing ms)
 answered : (ms : List Made) → packets_in (map (λ (m : Made). taken m.taken) ms) ≡ packets_of ms
 unfolding packets_in if_done handing
 answered [] = refl
-answered (m ∷ ms) = go (eqb m.taken.answer 0) (answered ms)
+answered (m ∷ ms) = go (is_ok m.taken.answer) (answered ms)
   where
     go : (b : Bool) → packets_in (map (λ (m : Made). taken m.taken) ms) ≡ packets_of ms
         → cond b (m.taken.packet ∷ []) [] ++ packets_in (map (λ (m : Made). taken m.taken) ms) ≡ map (λ (m : Made). m.taken.packet) (cond b (m ∷ handing ms) (handing ms))
@@ -81,7 +78,7 @@ answered (m ∷ ms) = go (eqb m.taken.answer 0) (answered ms)
 
 module _ (w : World) where
   -- a take's packet is made of the slots from head on, so many as it counts
-  slots_are : (q : RxQueue) → q.shared.size ≡ w.queue.shared.size → (taken_on q w.ring w.list).answer ≡ 0
+  slots_are : (q : RxQueue) → q.shared.size ≡ w.queue.shared.size → (taken_on q w.ring w.list).answer ≡ done
       → packet_at w q.shared.head (taken_on q w.ring w.list).packet.count ≡ (taken_on q w.ring w.list).packet
   unfolding posted_slots
   slots_are q e z =
@@ -90,7 +87,7 @@ module _ (w : World) where
       (ap packet_of (sym (run_take (slot_in w.ring w.list) q.shared.size q.shared.head _ q.shared.posted u.within))
       ∙ sym (ap (λ (x : Taken). x.packet) u.is))
 
-  size_same : (q : RxQueue) → (taken_on q w.ring w.list).answer ≡ 0 → (taken_on q w.ring w.list).queue.shared.size ≡ q.shared.size
+  size_same : (q : RxQueue) → (taken_on q w.ring w.list).answer ≡ done → (taken_on q w.ring w.list).queue.shared.size ≡ q.shared.size
   size_same q z = ap (λ (x : Taken). x.queue.shared.size) (hands_up q w.ring w.list z).is
 
   takes_tell : (n : ℕ) (q : RxQueue) → q.shared.size ≡ w.queue.shared.size → (rest : List ℕ)
@@ -100,8 +97,8 @@ module _ (w : World) where
       by_takes w.ring w.list
       (λ n q ms. q.shared.size ≡ w.queue.shared.size → (rest : List ℕ) → packets_told w (length (handing ms)) (told (handing ms) ++ rest) ≡ packets_of ms)
       (λ q e rest. refl)
-      (λ n q ms z r e rest. rw (eq-eqb _ _ z) (rw (slots_are q e z, r (size_same q z ∙ e) rest)))
-      (λ n q ne e rest. rw (ne_eqb _ _ ne))
+      (λ n q ms z r e rest. rw (done-is_ok _ z) (rw (slots_are q e z, r (size_same q z ∙ e) rest)))
+      (λ n q ne e rest. rw (refused-is_ok _ ne))
 
   module _ (out : List ℕ) (limit : ℕ) where
     burst_tells : up_by w (burst out limit) ≡ packets_of (made_at w out limit)
@@ -159,7 +156,7 @@ end_last w [] a = refl
 end_last w (b ∷ before) a = end_last (after_act w b) before a
 
 -- a take behind a burst that answers 4 answers 4
-four_behind : (v : World) (out : List ℕ) (limit : ℕ) → (burst_at v out limit).answer ≡ 4 → (take_at (after_act v (burst out limit))).answer ≡ 4
+four_behind : (v : World) (out : List ℕ) (limit : ℕ) → (burst_at v out limit).answer ≡ Err NotYet → (take_at (after_act v (burst out limit))).answer ≡ Err NotYet
 unfolding take_at after_act with_queue
 four_behind v out limit e = four_again v.queue v.ring v.list out limit e
 

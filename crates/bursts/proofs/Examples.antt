@@ -1,6 +1,5 @@
 -- The history of specs/Examples, computed from the definitions. Assumes nothing.
-use mathlib.Core.Path.{refl}
-use native.Mathlib.Omega.{arith}
+use Rattle.std.proofs.Common.{refl, arith}
 use Rattle.slots.specs.Slots.{run}
 use Rattle.receive.specs.Queue.{record_ok, lent_ok, fresh_of}
 use Rattle.scan.specs.Slots.{posted_slots}
@@ -24,7 +23,7 @@ polled =
     record {
       allowed = (tt, (tt, (tt, (tt, (tt, (((λ e. omega arith), tt), (tt, (((λ e. omega arith), tt), (((λ e. omega arith), tt), (tt, (tt, (tt, tt))))))))))));
       says = refl;
-      handed_up_lem = refl;
+      packets_are = refl;
       takes_are = refl;
     }
 

@@ -1,6 +1,7 @@
 -- Demand 3 of a history with bursts: each burst counts as its takes, slots examined left out.
 -- Assumes nothing.
-use Rattle.std.specs.Prelude.{◌≡◌, List, [], ◌∷◌, ◌++◌, map, ℕ}
+use Rattle.std.specs.Prelude.{◌≡◌, List, [], ◌∷◌, ◌++◌, map, ℕ, Err}
+use Rattle.rules.specs.declared.Refusal.TheVariants.{NotYet}
 use Rattle.receive.specs.Burst.{Made}
 use Rattle.history.specs.World.{World, taken, end, replies, AllAllowed}
 use Rattle.history.specs.History.{completed, handed_up}
@@ -22,5 +23,5 @@ pub record BurstDemand (w : World) (acts : List Act) : Type 0 where
   pub demand : Demand3 w (spread w acts)
   pub console : Console w (spread w acts)
   -- "'not yet' only when everything completed has been handed up", of a burst that answers 4: every front part of a history is one
-  pub not_yet : (before : List Act) (out : List ℕ) (limit : ℕ) → acts ≡ before ++ burst out limit ∷ [] → (burst_at (end_of w before) out limit).answer ≡ 4
+  pub not_yet : (before : List Act) (out : List ℕ) (limit : ℕ) → acts ≡ before ++ burst out limit ∷ [] → (burst_at (end_of w before) out limit).answer ≡ Err NotYet
       → completed w (spread w acts) ≡ all_up w acts

@@ -1,5 +1,6 @@
 -- A history with bursts, computed over the ring of history's examples, whose slots are full of old write-backs. Assumes nothing.
 use Rattle.std.specs.Prelude.{ℕ, ◌≡◌, List, [], ◌∷◌, ◌++◌, map, replicate}
+use Rattle.rules.specs.Rules.{number_of}
 use Rattle.burst.specs.Out.{burst_numbers}
 use Rattle.receive.specs.Take.{packet_of}
 use Rattle.history.specs.World.{World, Event, poll}
@@ -47,7 +48,7 @@ takes =
 -- of each burst the answer, the packets and the slots examined
 unfoldable pub says_at : World → Act → List (List ℕ)
 says_at w (event e) = []
-says_at w (burst out limit) = ((burst_at w out limit).answer ∷ (burst_at w out limit).packets ∷ (burst_at w out limit).examined ∷ []) ∷ []
+says_at w (burst out limit) = (number_of (burst_at w out limit).answer ∷ (burst_at w out limit).packets ∷ (burst_at w out limit).examined ∷ []) ∷ []
 
 unfoldable pub bursts_say : World → List Act → List (List ℕ)
 bursts_say w [] = []
@@ -58,5 +59,5 @@ pub record Polled : Type 0 where
   -- nothing posted; nothing written, the oldest slot examined; half a packet, its slot and the next examined; the limit; 10; one packet, and nothing left posted
   pub says : bursts_say start acts
       ≡ ((4 ∷ 0 ∷ 0 ∷ []) ∷ (4 ∷ 0 ∷ 1 ∷ []) ∷ (4 ∷ 0 ∷ 2 ∷ []) ∷ (0 ∷ 1 ∷ 2 ∷ []) ∷ (10 ∷ 0 ∷ 0 ∷ []) ∷ (4 ∷ 1 ∷ 1 ∷ []) ∷ [])
-  pub handed_up_lem : all_up start acts ≡ map packet_of ((part_in 1 ∷ last_in 2 ∷ []) ∷ (last_in 3 ∷ []) ∷ [])
+  pub packets_are : all_up start acts ≡ map packet_of ((part_in 1 ∷ last_in 2 ∷ []) ∷ (last_in 3 ∷ []) ∷ [])
   pub takes_are : spread start acts ≡ takes

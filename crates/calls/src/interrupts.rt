@@ -1,25 +1,20 @@
 // Interrupt words.
 use interrupt::{Enable, Request};
-use script::{Given, Row, row_of};
+use rules::number_of;
+use script::{Numbers, Row, row_of};
 
-fn enable(n: u64) -> Enable {
-    match n {
-        0 => Enable::Off,
-        1 => Enable::On,
-        _ => Enable::Leave,
-    }
-}
-
-pub(crate) fn word(given: Given) -> Row {
+// Any number of `enable` above 2 is Leave: the form of a line has refused it before.
+pub(crate) fn word(numbers: &Numbers) -> Row {
     let answer = interrupt::interrupt(Request {
-        vector: given.n0,
-        enable: enable(given.n1),
-        write_back: given.n2 == 1,
-        clear: given.n3 == 1,
-        trigger: given.n4 == 1,
-        trigger_index: given.n5,
-        index: given.n6,
-        interval: given.n7,
+        vector: numbers[0],
+        enable: Enable::try_from(numbers[1]).unwrap_or(Enable::Leave),
+        write_back: numbers[2] == 1,
+        clear: numbers[3] == 1,
+        trigger: numbers[4] == 1,
+        trigger_index: numbers[5],
+        index: numbers[6],
+        interval: numbers[7],
     });
-    row_of(&[answer.answer as u64, answer.offset, answer.word])
+    let number = u64::from(number_of(answer.answer));
+    row_of(&[number, answer.offset, answer.word])
 }

@@ -1,10 +1,9 @@
 -- The command words of a script, as two tables.
 -- Assumes nothing.
-use Rattle.std.specs.Prelude.{ℕ, zero, suc, ◌+◌, ◌*◌, Bool, true, false, ◌&&◌, cond, List, [], ◌∷◌, ltb, eqb, length, get_or}
-use Rattle.rules.specs.Rules.{Line, ◌is◌, listed_at}
+use Rattle.std.specs.Prelude.{ℕ, Bool, true, false, ◌&&◌, cond, List, [], ◌∷◌, eqb, Option, Some, None}
 use Rattle.command.specs.Bytes.{bytes_of}
 use Rattle.command.specs.declared.Command.{Command}
-use Rattle.command.specs.declared.Command.TheVariants.{Unknown, Rx, RxSet, RxPoke, RxList, Post, Take, Out, Burst, RxTail, RxReg, RxSum, Tx, TxSet, TxPoke, TxToken, TxCount, Send, Reclaim, TxTail, TxReg, TxSum, Int, Ptype, Mtx, Mrx, MtxSet, MrxSet, MtxPoke, MrxPoke, Mbuf, MtxList, MrxList, Msend, Mshut, Mdone, Mpost, Mread, MtxTail, MtxReg, MrxTail, MrxReg, MtxSum, MrxSum}
+use Rattle.command.specs.declared.Command.TheVariants.{Rx, RxSet, RxPoke, RxList, Post, Take, Out, Burst, RxTail, RxReg, RxSum, Tx, TxSet, TxPoke, TxToken, TxCount, Send, Reclaim, TxTail, TxReg, TxSum, Int, Ptype, Mtx, Mrx, MtxSet, MrxSet, MtxPoke, MrxPoke, Mbuf, MtxList, MrxList, Msend, Mshut, Mdone, Mpost, Mread, MtxTail, MtxReg, MrxTail, MrxReg, MtxSum, MrxSum}
 
 -- a word and the command that it names
 pub record Entry : Type 0 where
@@ -71,30 +70,18 @@ same [] (y ∷ ys) = false
 same (x ∷ xs) [] = false
 same (x ∷ xs) (y ∷ ys) = eqb x y && same xs ys
 
--- the command that a word names by the first entry that has it, or another where none has
-abbrev pub named_by : List Entry → Command → List ℕ → Command
+-- the command that a word names by the first entry that has it, or another answer where none has
+abbrev pub named_by : List Entry → Option Command → List ℕ → Option Command
 named_by [] other w = other
-named_by (e ∷ es) other w = cond (same e.word w) e.names (named_by es other w)
+named_by (e ∷ es) other w = cond (same e.word w) (Some e.names) (named_by es other w)
 
-unfoldable pub command_of : List ℕ → Command
-command_of w = named_by queue_words (named_by mail_words Unknown w) w
+-- the command of the queues that a word names
+unfoldable pub queue_command_of : List ℕ → Option Command
+queue_command_of w = named_by queue_words None w
 
--- the first k bytes of a word as one number, behind a first 1
-abbrev pub key_to : List ℕ → ℕ → ℕ
-key_to w zero = 1
-key_to w (suc k) = key_to w k * 256 + get_or w k 0
+-- the command of the mailbox that a word names
+unfoldable pub mail_command_of : List ℕ → Option Command
+mail_command_of w = named_by mail_words None w
 
--- the number of a word of at most seven bytes
-abbrev pub key_of : List ℕ → ℕ
-key_of w = cond (ltb 7 (length w)) 0 (key_to w (length w))
-
--- words by their numbers
-abbrev pub numbered : List Entry → List (Line Command)
-numbered [] = []
-numbered (e ∷ es) = (key_of e.word is e.names) ∷ numbered es
-
-unfoldable pub mail_keyed : ℕ → Command
-mail_keyed k = listed_at (numbered mail_words) Unknown k
-
-unfoldable pub keyed : ℕ → Command
-keyed k = listed_at (numbered queue_words) (mail_keyed k) k
+unfoldable pub command_of : List ℕ → Option Command
+command_of w = named_by queue_words (named_by mail_words None w) w

@@ -2,11 +2,10 @@
 #![tactic(auto)]
 
 ghost use Rattle.std.specs.Prelude.{◌≡◌};
-ghost use Rattle.command.specs.Commands.{command_of, key_of, mail_keyed, keyed};
+ghost use Rattle.command.specs.Commands.{queue_command_of, mail_command_of, command_of};
 
-#[derive(Clone, Copy)]
+#[derive(Clone, Copy, Debug, PartialEq, Eq)]
 pub enum Command {
-    Unknown,
     Rx,
     RxSet,
     RxPoke,
@@ -52,92 +51,74 @@ pub enum Command {
     MrxSum,
 }
 
-// The longest of the words.
-const LONGEST: usize = 7;
-
-// The bytes of a word as one number, behind a first 1; 0 for a word longer than all commands.
-fn key_of(word: &[u8]) -> u64
-    ensures { result ≡ key_of word.now }
+// Kept: two matches, since one of 43 arms is longer than the 40 lines that a function may have.
+// The command of the queues that a word names, if it names one.
+#[tactic(auto, using(crate::proofs::Words::no_queue_word), unfolding(crate::specs::Commands::queue_command_of))]
+fn queue_command_of(word: &[u8]) -> Option<Command>
+    ensures { result ≡ queue_command_of word.now }
 {
-    if LONGEST < word.len() {
-        return 0;
-    }
-    let mut key = 1;
-    let mut i = 0;
-    while i < word.len() {
-        let byte = word[i] as u64;
-        key = key * 256 + byte;
-        i += 1;
-    }
-    key
-}
-
-// The command of the mailbox whose word has a number.
-#[tactic(auto, unfolding(crate::specs::Commands::mail_keyed))]
-fn mail_keyed(key: u64) -> Command
-    ensures { result ≡ mail_keyed key }
-{
-    match key {
-        0x1_6d_74_78 => Command::Mtx,
-        0x1_6d_72_78 => Command::Mrx,
-        0x1_6d_74_78_73_65_74 => Command::MtxSet,
-        0x1_6d_72_78_73_65_74 => Command::MrxSet,
-        0x1_6d_74_78_70_6f_6b_65 => Command::MtxPoke,
-        0x1_6d_72_78_70_6f_6b_65 => Command::MrxPoke,
-        0x1_6d_62_75_66 => Command::Mbuf,
-        0x1_6d_74_78_6c_69_73_74 => Command::MtxList,
-        0x1_6d_72_78_6c_69_73_74 => Command::MrxList,
-        0x1_6d_73_65_6e_64 => Command::Msend,
-        0x1_6d_73_68_75_74 => Command::Mshut,
-        0x1_6d_64_6f_6e_65 => Command::Mdone,
-        0x1_6d_70_6f_73_74 => Command::Mpost,
-        0x1_6d_72_65_61_64 => Command::Mread,
-        0x1_6d_74_78_74_61_69_6c => Command::MtxTail,
-        0x1_6d_74_78_72_65_67 => Command::MtxReg,
-        0x1_6d_72_78_74_61_69_6c => Command::MrxTail,
-        0x1_6d_72_78_72_65_67 => Command::MrxReg,
-        0x1_6d_74_78_73_75_6d => Command::MtxSum,
-        0x1_6d_72_78_73_75_6d => Command::MrxSum,
-        _ => Command::Unknown,
+    match word {
+        b"rx" => Some(Command::Rx),
+        b"rxset" => Some(Command::RxSet),
+        b"rxpoke" => Some(Command::RxPoke),
+        b"rxlist" => Some(Command::RxList),
+        b"post" => Some(Command::Post),
+        b"take" => Some(Command::Take),
+        b"out" => Some(Command::Out),
+        b"burst" => Some(Command::Burst),
+        b"rxtail" => Some(Command::RxTail),
+        b"rxreg" => Some(Command::RxReg),
+        b"rxsum" => Some(Command::RxSum),
+        b"tx" => Some(Command::Tx),
+        b"txset" => Some(Command::TxSet),
+        b"txpoke" => Some(Command::TxPoke),
+        b"txtoken" => Some(Command::TxToken),
+        b"txcount" => Some(Command::TxCount),
+        b"send" => Some(Command::Send),
+        b"reclaim" => Some(Command::Reclaim),
+        b"txtail" => Some(Command::TxTail),
+        b"txreg" => Some(Command::TxReg),
+        b"txsum" => Some(Command::TxSum),
+        b"int" => Some(Command::Int),
+        b"ptype" => Some(Command::Ptype),
+        _ => None,
     }
 }
 
-// The command whose word has a number.
-#[tactic(auto, unfolding(crate::specs::Commands::keyed))]
-fn keyed(key: u64) -> Command
-    ensures { result ≡ keyed key }
+// The command of the mailbox that a word names, if it names one.
+#[tactic(auto, using(crate::proofs::Words::no_mail_word), unfolding(crate::specs::Commands::mail_command_of))]
+fn mail_command_of(word: &[u8]) -> Option<Command>
+    ensures { result ≡ mail_command_of word.now }
 {
-    match key {
-        0x1_72_78 => Command::Rx,
-        0x1_72_78_73_65_74 => Command::RxSet,
-        0x1_72_78_70_6f_6b_65 => Command::RxPoke,
-        0x1_72_78_6c_69_73_74 => Command::RxList,
-        0x1_70_6f_73_74 => Command::Post,
-        0x1_74_61_6b_65 => Command::Take,
-        0x1_6f_75_74 => Command::Out,
-        0x1_62_75_72_73_74 => Command::Burst,
-        0x1_72_78_74_61_69_6c => Command::RxTail,
-        0x1_72_78_72_65_67 => Command::RxReg,
-        0x1_72_78_73_75_6d => Command::RxSum,
-        0x1_74_78 => Command::Tx,
-        0x1_74_78_73_65_74 => Command::TxSet,
-        0x1_74_78_70_6f_6b_65 => Command::TxPoke,
-        0x1_74_78_74_6f_6b_65_6e => Command::TxToken,
-        0x1_74_78_63_6f_75_6e_74 => Command::TxCount,
-        0x1_73_65_6e_64 => Command::Send,
-        0x1_72_65_63_6c_61_69_6d => Command::Reclaim,
-        0x1_74_78_74_61_69_6c => Command::TxTail,
-        0x1_74_78_72_65_67 => Command::TxReg,
-        0x1_74_78_73_75_6d => Command::TxSum,
-        0x1_69_6e_74 => Command::Int,
-        0x1_70_74_79_70_65 => Command::Ptype,
-        _ => mail_keyed(key),
+    match word {
+        b"mtx" => Some(Command::Mtx),
+        b"mrx" => Some(Command::Mrx),
+        b"mtxset" => Some(Command::MtxSet),
+        b"mrxset" => Some(Command::MrxSet),
+        b"mtxpoke" => Some(Command::MtxPoke),
+        b"mrxpoke" => Some(Command::MrxPoke),
+        b"mbuf" => Some(Command::Mbuf),
+        b"mtxlist" => Some(Command::MtxList),
+        b"mrxlist" => Some(Command::MrxList),
+        b"msend" => Some(Command::Msend),
+        b"mshut" => Some(Command::Mshut),
+        b"mdone" => Some(Command::Mdone),
+        b"mpost" => Some(Command::Mpost),
+        b"mread" => Some(Command::Mread),
+        b"mtxtail" => Some(Command::MtxTail),
+        b"mtxreg" => Some(Command::MtxReg),
+        b"mrxtail" => Some(Command::MrxTail),
+        b"mrxreg" => Some(Command::MrxReg),
+        b"mtxsum" => Some(Command::MtxSum),
+        b"mrxsum" => Some(Command::MrxSum),
+        _ => None,
     }
 }
 
-// The command that a word names.
-pub fn command_of(word: &[u8]) -> Command
+// The command that a word names, if it names one.
+#[tactic(auto, using(crate::proofs::Words::by_parts))]
+pub fn command_of(word: &[u8]) -> Option<Command>
     ensures { result ≡ command_of word.now }
 {
-    keyed(key_of(word))
+    queue_command_of(word).or(mail_command_of(word))
 }

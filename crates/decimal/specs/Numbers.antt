@@ -1,8 +1,7 @@
 -- Numbers as text: the number that a word of decimal digits writes.
 -- Assumes nothing.
-use Rattle.std.specs.Prelude.{ℕ, ◌+◌, ◌-◌, ◌*◌, ◌^◌, Bool, true, false, ◌&&◌, cond, leb, ltb, length}
-use mathlib.Core.List.{List, [], ◌∷◌, foldl}
-use Rattle.decimal.specs.declared.Number.{Number}
+use Rattle.std.specs.Prelude.{ℕ, ◌+◌, ◌-◌, ◌*◌, ◌^◌, Bool, true, ◌&&◌, cond, List, [], ◌∷◌, leb, ltb, length, Option, Some, None}
+use mathlib.Core.List.{foldl}
 
 -- a decimal digit, '0' to '9'
 abbrev pub is_digit : ℕ → Bool
@@ -20,12 +19,6 @@ one_more v b = v * 10 + (b - 48)
 abbrev pub value_of : List ℕ → ℕ
 value_of ds = foldl one_more 0 ds
 
-abbrev pub number_is : ℕ → Number
-number_is v = record { ok = true; value = v }
-
-abbrev pub no_number : Number
-no_number = record { ok = false; value = 0 }
-
 -- digits of a value below 2^64
 abbrev pub fitting : List ℕ → Bool
 fitting w = all_digits w && ltb (value_of w) (2 ^ 64)
@@ -35,9 +28,13 @@ abbrev pub is_number : List ℕ → Bool
 is_number w = leb 1 (length w) && leb (length w) 20 && fitting w
 
 -- what a word says
-unfoldable pub number_of : List ℕ → Number
-number_of w = cond (is_number w) (number_is (value_of w)) no_number
+unfoldable pub number_of : List ℕ → Option ℕ
+number_of w = cond (is_number w) (Some (value_of w)) None
 
--- one step of the reader: what is read so far, with one byte more
-unfoldable pub next_read : Number → ℕ → Number
-next_read n b = cond (n.ok && is_digit b) (cond (ltb (one_more n.value b) (2 ^ 64)) (number_is (one_more n.value b)) no_number) no_number
+-- one step of the reader: the number that is read so far, with one byte more
+unfoldable pub next_read : ℕ → ℕ → Option ℕ
+next_read v b = cond (is_digit b && ltb (one_more v b) (2 ^ 64)) (Some (one_more v b)) None
+
+-- what digits behind a number make of it
+abbrev pub read_behind : ℕ → List ℕ → Option ℕ
+read_behind v w = cond (all_digits w && ltb (foldl one_more v w) (2 ^ 64)) (Some (foldl one_more v w)) None

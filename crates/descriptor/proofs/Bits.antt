@@ -1,13 +1,6 @@
 -- The bits of the words one by one: which are always 0, which always 1, and what two pieces of one send share.
 -- Assumes nothing.
-use Prim.Native.Nat.{ℕ, ◌+◌, ◌%◌, ◌^◌}
-use mathlib.Core.Path.{◌≡◌, sym, ap, ◌∙◌}
-use mathlib.Core.Bool.{Bool, false}
-use mathlib.Core.List.{List, [], ◌∷◌}
-use native.Mathlib.Nat.{mod-lt}
-use native.Mathlib.Omega.{arith}
-use lib.Dec.{T}
-use lib.Pow.{pow_pos}
+use Rattle.std.proofs.Common.{ℕ, ◌+◌, ◌%◌, ◌^◌, ◌≡◌, sym, ap, ◌∙◌, Bool, false, List, [], ◌∷◌, mod-lt, arith, T, pow_pos}
 use mir.Facts.{and_yes}
 use Rattle.field.specs.Field.{field_of, placed, Part, Line, read_at, apart, free, bit}
 use Rattle.field.proofs.Laws.{reads, reads_free, put_apart}

@@ -1,11 +1,6 @@
 -- Every field of the words at both of its ends, computed; that all numbers between them read back too is `data_back` and `context_back`.
 -- Assumes nothing.
-use mathlib.Core.Path.{◌≡◌, refl}
-use mathlib.Core.Bool.{Bool, true, false, not, ◌&&◌, cond}
-use mathlib.Core.List.{List, [], ◌∷◌}
-use Prim.Native.Nat.{ℕ, zero, suc, ◌-◌, ◌^◌}
-use lib.Dec.{eqb}
-use lib.ListN.{length}
+use Rattle.std.proofs.Common.{◌≡◌, refl, Bool, true, false, not, ◌&&◌, cond, List, [], ◌∷◌, ℕ, zero, suc, ◌-◌, ◌^◌, eqb, length}
 use Rattle.field.specs.Field.{Part, part, field_of, word_of}
 use Rattle.descriptor.specs.declared.Data.{Data}
 use Rattle.descriptor.specs.Words.{data_parts, data_word, read_data, context_parts, context_word, read_context}

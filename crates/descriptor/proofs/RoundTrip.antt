@@ -1,6 +1,6 @@
 -- Read at their places, the words give back the fields that they were made of: every field, for all values that fit.
 -- Assumes nothing.
-use mathlib.Core.Path.{◌≡◌}
+use Rattle.std.proofs.Common.{◌≡◌}
 use Rattle.field.proofs.Laws.{reads, flag_back, fit_back}
 use Rattle.descriptor.specs.declared.Data.{Data}
 use Rattle.descriptor.specs.declared.Context.{Context}

@@ -48,7 +48,7 @@ const CRC: u64 = 0x40;
 const SEGMENTATION: u64 = 0x11;
 
 // A data descriptor's word 1, field by field. MACLEN is in 2-byte units, IPLEN and L4LEN are in 4-byte units.
-#[derive(Clone, Copy)]
+#[derive(Clone, Copy, Debug, PartialEq, Eq)]
 pub struct Data {
     pub eop: bool,
     pub rs: bool,
@@ -63,12 +63,13 @@ pub struct Data {
 }
 
 // A context descriptor's word 1.
-#[derive(Clone, Copy)]
+#[derive(Clone, Copy, Debug, PartialEq, Eq)]
 pub struct Context {
     pub tlen: u64,
     pub mss: u64,
 }
 
+// Kept: four functions and no From, since either reading takes any word, and both ways cut each number down to its field (01, "Forms by place").
 pub fn data_word(d: Data) -> u64
     ensures { result ≡ data_word d }
 {

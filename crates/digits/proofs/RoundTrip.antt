@@ -1,12 +1,7 @@
 -- The digits of a 64-bit number are well written: one to twenty, no leading zero, and they read back as the number. Assumes nothing.
-use Prim.Native.Nat.{ℕ, ◌+◌, ◌%◌, ◌^◌, ◌<◌}
-use mathlib.Core.Path.{◌≡◌, refl, ◌∙◌}
-use mathlib.Core.Bool.{Bool, true, false, ◌&&◌}
-use mathlib.Core.List.{List, [], ◌∷◌, ◌++◌, foldl-append}
-use native.Mathlib.Omega.{arith}
-use borrow.Author.Tests.{le-leb, lt-ltb}
-use lib.ListN.{length, get_or}
-use Rattle.decimal.specs.Numbers.{is_digit, all_digits, one_more, value_of, number_is, number_of}
+use Rattle.std.proofs.Common.{ℕ, ◌+◌, ◌%◌, ◌^◌, ◌<◌, ◌≡◌, refl, ◌∙◌, Bool, true, false, ◌&&◌, List, [], ◌∷◌, ◌++◌, length, get_or, Some, arith, le-leb, lt-ltb}
+use mathlib.Core.List.{foldl-append}
+use Rattle.decimal.specs.Numbers.{is_digit, all_digits, one_more, value_of, number_of}
 use Rattle.digits.specs.Digits.{digits_in, digits_of, WellWritten}
 use Rattle.digits.proofs.Written.{each, digits_some, digits_short}
 
@@ -48,7 +43,7 @@ module _ (n : ℕ) (h : n < 2 ^ 64) where
   unfolding digits_of
   leads_of = leads_in 20 n (omega arith) (omega arith)
 
-  read_of : number_of (digits_of n) ≡ number_is n
+  read_of : number_of (digits_of n) ≡ Some n
   unfolding number_of
   read_of = rw (le-leb 1 (length (digits_of n)) (digits_some n h), le-leb (length (digits_of n)) 20 (digits_short n h), digits_of_lem, value_of_lem, lt-ltb n (2 ^ 64) h)
 

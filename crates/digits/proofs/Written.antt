@@ -1,13 +1,5 @@
 -- The digits of a number: one to twenty, without a leading zero, and read back they give the number. Assumes nothing.
-use Prim.Native.Nat.{ℕ, zero, suc, ◌+◌, ◌-◌, ◌/◌, ◌%◌, ◌^◌, ◌≤◌, ◌<◌}
-use mathlib.Core.Path.{◌≡◌, refl, ap, sym, ◌∙◌}
-use mathlib.Core.Bool.{Bool, true, false}
-use mathlib.Core.List.{List, [], ◌∷◌, ◌++◌}
-use native.Mathlib.Omega.{arith}
-use native.Mathlib.Nat.{pow-suc}
-use borrow.Author.Tests.{lt-ltb, le-ltb, ltb-true, ltb-false}
-use lib.Dec.{ltb}
-use lib.ListN.{length, set, length-append}
+use Rattle.std.proofs.Common.{ℕ, zero, suc, ◌+◌, ◌-◌, ◌*◌, ◌/◌, ◌%◌, ◌^◌, ◌≤◌, ◌<◌, max, ◌≡◌, refl, ap, sym, Bool, true, false, List, [], ◌∷◌, ◌++◌, length, set, ltb, arith, pow-suc, lt-ltb, le-ltb, ltb-true, ltb-false, length-append}
 use lib.Seq.{sets}
 use Rattle.digits.proofs.Places.{sets_last}
 use Rattle.digits.specs.Digits.{digits_in, digits_of}
@@ -41,24 +33,6 @@ module _ (P : ℕ → ℕ → List ℕ → Type 0)
           some zero h l = absurd (omega arith)
           some (suc k) h l = omega arith
 
--- so many more digits than are needed change nothing
-in_more : (k n : ℕ) → 0 < k → n < 10 ^ k → digits_in (suc k) n ≡ digits_in k n
-in_more = each (λ k n ds. digits_in (suc k) n ≡ ds) (λ k n h. in_last (suc k) n h)
-    (λ k n ds h p e. in_step (suc k) n h ∙ ap (λ (l : List ℕ). l ++ ((48 + n % 10) ∷ [])) e)
-
--- the same laws of the digits of a 64-bit number
-module _ (n : ℕ) where
-  pub digits_last : n < 10 → digits_of n ≡ (48 + n) ∷ []
-  unfolding digits_of
-  digits_last h = in_last 19 n h
-
-  pub digits_step : 10 ≤ n → n < 2 ^ 64 → digits_of n ≡ digits_of (n / 10) ++ ((48 + n % 10) ∷ [])
-  unfolding digits_of
-  digits_step h l = in_step 19 n h ∙ ap (λ (ds : List ℕ). ds ++ ((48 + n % 10) ∷ [])) (sym (in_more 19 (n / 10) (omega arith) (omega arith)))
-
-  pub digits_longer : 10 ≤ n → n < 2 ^ 64 → length (digits_of n) ≡ length (digits_of (n / 10)) + 1
-  digits_longer h l = ap length (digits_step h l) ∙ length-append (digits_of (n / 10)) ((48 + n % 10) ∷ [])
-
 -- one to twenty digits
 in_some : (k n : ℕ) → 0 < k → n < 10 ^ k → 1 ≤ length (digits_in k n)
 in_some = each (λ k n ds. 1 ≤ length ds) (λ k n h. omega arith) (λ k n ds h p l. omega (arith, length-append ds ((48 + n % 10) ∷ [])))
@@ -75,9 +49,53 @@ module _ (n : ℕ) (h : n < 2 ^ 64) where
   unfolding digits_of
   digits_short = in_short 20 n (omega arith) (omega arith)
 
+ten_pos : (e : ℕ) → 1 ≤ 10 ^ e
+ten_pos zero = omega arith
+ten_pos (suc e) = rw (pow-suc 10 e) (omega (arith, ten_pos e))
+
+-- one more than the power of ten that the number reaches
+log_in : (k n : ℕ) → 0 < k → n < 10 ^ k → (e : ℕ) → 10 ^ e ≤ n → n < 10 * 10 ^ e → length (digits_in k n) ≡ 1 + e
+log_in = each (λ k n ds. (e : ℕ) → 10 ^ e ≤ n → n < 10 * 10 ^ e → length ds ≡ 1 + e) (λ k n h. one n h) (λ k n ds h p l. more n ds h l)
+  where
+    one : (n : ℕ) → n < 10 → (e : ℕ) → 10 ^ e ≤ n → n < 10 * 10 ^ e → 1 ≡ 1 + e
+    one n h zero a b = refl
+    one n h (suc e) a b = absurd (omega (arith, rw (pow-suc 10 e) at a, ten_pos e))
+
+    more : (n : ℕ) (ds : List ℕ) → 10 ≤ n → ((e : ℕ) → 10 ^ e ≤ n / 10 → n / 10 < 10 * 10 ^ e → length ds ≡ 1 + e) → (e : ℕ) → 10 ^ e ≤ n → n < 10 * 10 ^ e → length (ds ++ ((48 + n % 10) ∷ [])) ≡ 1 + e
+    more n ds h l zero a b = absurd (omega arith)
+    more n ds h l (suc e) a b = omega (arith, length-append ds ((48 + n % 10) ∷ []), l e (omega (arith, rw (pow-suc 10 e) at a)) (omega (arith, rw (pow-suc 10 e) at b)))
+
+pub count_of_digits : (n e : ℕ) → n < 2 ^ 64 → 10 ^ e ≤ max n 1 → max n 1 < 10 * 10 ^ e → length (digits_of n) ≡ 1 + e
+unfolding digits_of
+count_of_digits zero e h a b = rw (in_last 19 0 (omega arith)) (none e a)
+  where
+    none : (e : ℕ) → 10 ^ e ≤ max 0 1 → 1 ≡ 1 + e
+    none zero a = refl
+    none (suc e) a = absurd (omega (arith, rw (pow-suc 10 e) at a, ten_pos e))
+count_of_digits (suc n) e h a b = log_in 20 (suc n) (omega arith) (omega arith) e (omega arith) (omega arith)
+
+-- the last k digits of a number, zeros before it too
+abbrev pub lasts : ℕ → ℕ → List ℕ
+lasts zero n = []
+lasts (suc k) n = lasts k (n / 10) ++ ((48 + n % 10) ∷ [])
+
+pub length-lasts : (k n : ℕ) → length (lasts k n) ≡ k
+length-lasts zero n = refl
+length-lasts (suc k) n = omega (arith, length-append (lasts k (n / 10)) ((48 + n % 10) ∷ []), length-lasts k (n / 10))
+
+lasts_in : (k n : ℕ) → 0 < k → n < 10 ^ k → digits_in k n ≡ lasts (length (digits_in k n)) n
+lasts_in = each (λ k n ds. ds ≡ lasts (length ds) n) (λ k n h. ap (λ (d : ℕ). (48 + d) ∷ []) (omega arith))
+    (λ k n ds h p e. let s : length (ds ++ ((48 + n % 10) ∷ [])) ≡ suc (length ds) = omega (arith, length-append ds ((48 + n % 10) ∷ [])) in rw s (ap (λ (l : List ℕ). l ++ ((48 + n % 10) ∷ [])) e))
+
+pub lasts_all : (k n : ℕ) → n < 2 ^ 64 → k ≡ length (digits_of n) → lasts k n ≡ digits_of n
+unfolding digits_of
+lasts_all k n h e = rw e (sym (lasts_in 20 n (omega arith) (omega arith)))
+
 -- the last of the digits is stored, and those before it are left
-pub spell_step : (out : List ℕ) (at left n : ℕ) → 10 ≤ n → n < 2 ^ 64 → left ≡ length (digits_of n)
-    → sets (set out (at + (left - 1)) (48 + n % 10)) at (digits_of (n / 10)) ≡ sets out at (digits_of n)
-spell_step out at left n h l e =
-    let i : left - 1 ≡ length (digits_of (n / 10)) = omega (arith, digits_longer n h l) in
-    rw (i, digits_step n h l) (sym (sets_last out at (digits_of (n / 10)) (48 + n % 10)))
+pub spell_step : (out : List ℕ) (at left n : ℕ) → 0 < left → sets (set out (at + (left - 1)) (48 + n % 10)) at (lasts (left - 1) (n / 10)) ≡ sets out at (lasts left n)
+spell_step out at zero n h = absurd (omega arith)
+spell_step out at (suc k) n h =
+    let ds = lasts k (n / 10) in
+    let e : at + (suc k - 1) ≡ at + length ds = omega (arith, length-lasts k (n / 10)) in
+    let m : suc k - 1 ≡ k = omega arith in
+    rw (e, m) (sym (sets_last out at ds (48 + n % 10)))

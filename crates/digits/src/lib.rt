@@ -12,13 +12,7 @@ const ZERO: u8 = b'0';
 pub fn digit_count(n: u64) -> usize
     ensures { result ≡ length (digits_of n) }
 {
-    let mut count = 1;
-    let mut rest = n;
-    while 10 <= rest {
-        rest = rest / 10;
-        count += 1;
-    }
-    count
+    1 + n.max(1).ilog10() as usize
 }
 
 // Whether so many bytes fit a text so long from this place on.
@@ -40,14 +34,11 @@ fn spell(out: &mut [u8], at: usize, count: usize, n: u64)
     requires { Spelled out.old at count n }
     ensures { out.new ≡ sets out.old at (digits_of n) }
 {
-    let mut left = count;
     let mut rest = n;
-    while 10 <= rest {
-        left -= 1;
+    for left in (0..count).rev() {
         out[at + left] = digit(rest % 10);
-        rest = rest / 10;
+        rest /= 10;
     }
-    out[at] = digit(rest);
 }
 
 // Puts a number's digits at a place, and answers the place after them; where they do not fit,

@@ -1,12 +1,7 @@
 -- A slot count that a packet of the posted slots can have.
 -- Assumes nothing.
-use Prim.Native.Nat.{ℕ, ◌≤◌}
-use mathlib.Core.Path.{◌≡◌}
-use mathlib.Core.Bool.{false, ◌||◌}
-use mathlib.Core.List.{List}
-use native.Mathlib.Omega.{arith}
-use borrow.Author.Tests.{eqb-false, ltb-false}
-use lib.Dec.{ltb, eqb}
+use Rattle.std.proofs.Common.{◌≡◌, ℕ, ◌≤◌, false, ◌||◌, List, ltb, eqb, ltb-false, arith}
+use Rattle.std.proofs.lemmas.Bool.{eqb-false}
 use Rattle.rules.proofs.Tests.{neither}
 use Rattle.ring.specs.declared.Queue.{Queue}
 use Rattle.done.specs.Marks.{count_at}

@@ -1,7 +1,7 @@
 -- The packet at head and whether it is done (01, "Sending"): reclaim's checks behind those of the record and the slices.
 -- Assumes nothing.
 use Rattle.std.specs.Prelude.{ℕ, ◌+◌, ◌-◌, ◌*◌, Bool, not, ◌||◌, List, [], ◌∷◌, ltb, eqb, get_or}
-use Rattle.rules.specs.Rules.{Check, ◌when◌, answer_of}
+use Rattle.rules.specs.Rules.{Answer, Check, ◌when◌, answer_of}
 use Rattle.field.specs.Field.{field_of}
 use Rattle.ring.specs.declared.Queue.{Queue}
 use Rattle.ring.specs.Queue.{slot_of}
@@ -25,5 +25,5 @@ done_checks q ring counts =
     ∷ (4 when not (is_marked ring (last_slot q counts)))
     ∷ []
 
-unfoldable pub done_answer : Queue → List ℕ → List ℕ → ℕ
+unfoldable pub done_answer : Queue → List ℕ → List ℕ → Answer
 done_answer q ring counts = answer_of (done_checks q ring counts)

@@ -1,12 +1,6 @@
 -- What was written is read back, field for field; and a device that sets DD and CMP leaves all else.
 -- Assumes nothing.
-use Prim.Native.Nat.{ℕ, ◌+◌, ◌*◌, ◌^◌, ◌≤◌, ◌<◌}
-use mathlib.Core.Path.{◌≡◌, refl, ap, ◌∙◌, subst}
-use mathlib.Core.List.{List, ◌++◌, append_assoc}
-use native.Mathlib.Nat.{add-zero}
-use native.Mathlib.Omega.{arith}
-use lib.ListN.{length, get_or, length-append}
-use lib.Seq.{get_or-set_same, get_or-set_other}
+use Rattle.std.proofs.Common.{ℕ, ◌+◌, ◌*◌, ◌^◌, ◌≤◌, ◌<◌, ◌≡◌, refl, ap, ◌∙◌, subst, List, ◌++◌, append_assoc, add-zero, arith, length, get_or, length-append, get_or-set_same, get_or-set_other}
 use Rattle.slots.specs.Memory.{read_from, store}
 use Rattle.slots.proofs.Stores.{length_from, store_here, read_agree}
 use Rattle.slots.proofs.Pieces.{read_stored, read_first, read_behind}

@@ -11,7 +11,7 @@ pub const ELEMENT: usize = 32;
 pub const COOKIE: usize = 8;
 
 // The fields of an element, the address in two halves.
-#[derive(Clone, Copy)]
+#[derive(Clone, Copy, Debug, Default, PartialEq, Eq)]
 pub struct Element {
     pub flags: u16,
     pub opcode: u16,
@@ -29,16 +29,15 @@ pub fn put(ring: &mut [u8], slot: usize, e: Element)
     ensures { ring.new ≡ store 32 ring.old slot (element_bytes e) }
 {
     let at = ELEMENT * slot;
-    let cookie = e.cookie;
-    little::put_u16(ring, at, e.flags);
-    little::put_u16(ring, at + 2, e.opcode);
-    little::put_u16(ring, at + 4, e.length);
-    little::put_u16(ring, at + 6, e.value);
-    little::copy(ring, at + 8, &cookie);
-    little::put_u32(ring, at + 16, e.param0);
-    little::put_u32(ring, at + 20, e.param1);
-    little::put_u32(ring, at + 24, e.high);
-    little::put_u32(ring, at + 28, e.low);
+    little::put_number(ring, at, e.flags);
+    little::put_number(ring, at + 2, e.opcode);
+    little::put_number(ring, at + 4, e.length);
+    little::put_number(ring, at + 6, e.value);
+    little::copy(ring, at + 8, &e.cookie);
+    little::put_number(ring, at + 16, e.param0);
+    little::put_number(ring, at + 20, e.param1);
+    little::put_number(ring, at + 24, e.high);
+    little::put_number(ring, at + 28, e.low);
 }
 
 // The cookie of which the first byte stands at a place.
@@ -46,9 +45,8 @@ fn cookie_at(ring: &[u8], at: usize) -> [u8; COOKIE]
     requires { at + 8 ≤ length ring.now }
     ensures { result ≡ read_from ring.now at 8 }
 {
-    let end = at + COOKIE;
     let mut cookie = [0; COOKIE];
-    little::copy(&mut cookie, 0, &ring[at..end]);
+    cookie.copy_from_slice(&ring[at..at + COOKIE]);
     cookie
 }
 
@@ -58,14 +56,14 @@ pub fn read(ring: &[u8], slot: usize) -> Element
 {
     let at = ELEMENT * slot;
     Element {
-        flags: little::get_u16(ring, at),
-        opcode: little::get_u16(ring, at + 2),
-        length: little::get_u16(ring, at + 4),
-        value: little::get_u16(ring, at + 6),
+        flags: little::get_number(ring, at),
+        opcode: little::get_number(ring, at + 2),
+        length: little::get_number(ring, at + 4),
+        value: little::get_number(ring, at + 6),
         cookie: cookie_at(ring, at + 8),
-        param0: little::get_u32(ring, at + 16),
-        param1: little::get_u32(ring, at + 20),
-        high: little::get_u32(ring, at + 24),
-        low: little::get_u32(ring, at + 28),
+        param0: little::get_number(ring, at + 16),
+        param1: little::get_number(ring, at + 20),
+        high: little::get_number(ring, at + 24),
+        low: little::get_number(ring, at + 28),
     }
 }

@@ -5,7 +5,7 @@ ghost use Rattle.std.specs.Prelude.{◌≡◌};
 ghost use Rattle.family.specs.Types.{family_of, family_number};
 
 // The family of a packet type number.
-#[derive(Clone, Copy)]
+#[derive(Clone, Copy, Debug, PartialEq, Eq)]
 pub enum Family {
     Unknown,
     Mac,
@@ -14,6 +14,7 @@ pub enum Family {
     Ipv6,
 }
 
+#[tactic(auto, unfolding(crate::specs::Types::family_of))]
 pub fn family_of(ptype: u8) -> Family
     ensures { result ≡ family_of ptype }
 {
@@ -27,14 +28,16 @@ pub fn family_of(ptype: u8) -> Family
 }
 
 // A number for each family, for those who print it.
-pub fn family_number(family: Family) -> u64
-    ensures { result ≡ family_number family }
-{
-    match family {
-        Family::Unknown => 0,
-        Family::Mac => 1,
-        Family::Arp => 2,
-        Family::Ipv4 => 3,
-        Family::Ipv6 => 4,
+impl From<Family> for u64 {
+    ghost from_gives = { λ family number. number ≡ family_number family };
+
+    fn from(family: Family) -> u64 {
+        match family {
+            Family::Unknown => 0,
+            Family::Mac => 1,
+            Family::Arp => 2,
+            Family::Ipv4 => 3,
+            Family::Ipv6 => 4,
+        }
     }
 }

@@ -1,26 +1,31 @@
 // Input that comes in pieces: the lines of a text of which a lent memory holds a part.
 #![tactic(auto)]
 
-ghost use Rattle.std.specs.Prelude.{◌≡◌, false, min};
+ghost use Rattle.std.specs.Prelude.{◌≡◌, false};
 ghost use Rattle.feed.specs.Feeding.{no_lines, next_of, last_of, more_of, RoomMade, MovedDown};
 
 // The part of the memory that is not read yet, and whether it goes on a line of which the beginning
 // was given up.
-#[derive(Clone, Copy)]
+#[derive(Clone, Copy, Debug, PartialEq, Eq)]
 pub struct Lines {
     pub start: usize,
     pub end: usize,
     pub long: bool,
 }
 
-// A line, where one was found: its bytes stand from one place up to another. A line that is too
-// long for the memory has lost its beginning.
-#[derive(Clone, Copy)]
+// A line: its bytes stand from one place up to another. A line that is too long for the memory has
+// lost its beginning.
+#[derive(Clone, Copy, Debug, PartialEq, Eq)]
 pub struct Line {
-    pub found: bool,
     pub long: bool,
     pub from: usize,
     pub to: usize,
+}
+
+// A line, where one was found, and what is not read yet.
+#[derive(Clone, Copy, Debug, PartialEq, Eq)]
+pub struct Step {
+    pub line: Option<Line>,
     pub lines: Lines,
 }
 
@@ -36,50 +41,47 @@ pub fn no_lines() -> Lines
 }
 
 // The next line that the memory holds with its end.
-pub fn next_line(lines: Lines, text: &[u8]) -> Line
+pub fn next_line(lines: Lines, text: &[u8]) -> Step
     ensures { result ≡ next_of lines text.now }
 {
-    let start = lines.start;
-    let end = lines.end;
-    let held = parts::first(text, end);
-    let at = words::line_end(held, start);
+    let held = parts::first(text, lines.end);
+    let at = words::line_end(held, lines.start);
     if at < held.len() {
-        Line {
-            found: true,
-            long: lines.long,
-            from: start,
-            to: at,
+        Step {
+            line: Some(Line {
+                long: lines.long,
+                from: lines.start,
+                to: at,
+            }),
             lines: Lines {
                 start: at + 1,
-                end,
+                end: lines.end,
                 long: false,
             },
         }
     } else {
-        Line {
-            found: false,
-            long: false,
-            from: 0,
-            to: 0,
-            lines,
-        }
+        Step { line: None, lines }
     }
 }
 
 // The line that the end of the input ends.
-pub fn last_line(lines: Lines) -> Line
+pub fn last_line(lines: Lines) -> Step
     ensures { result ≡ last_of lines }
 {
-    Line {
-        found: (lines.start < lines.end) | lines.long,
-        long: lines.long,
-        from: lines.start,
-        to: lines.end,
-        lines: Lines {
-            start: 0,
-            end: 0,
-            long: false,
-        },
+    if (lines.start < lines.end) | lines.long {
+        Step {
+            line: Some(Line {
+                long: lines.long,
+                from: lines.start,
+                to: lines.end,
+            }),
+            lines: no_lines(),
+        }
+    } else {
+        Step {
+            line: None,
+            lines: no_lines(),
+        }
     }
 }
 
@@ -87,15 +89,10 @@ pub fn last_line(lines: Lines) -> Line
 fn move_down(text: &mut [u8], from: usize, to: usize) -> usize
     ensures { MovedDown text.old from to result text.new }
 {
-    let end = least(to, text.len());
-    let mut at = from;
-    let mut i = 0;
-    while at < end {
-        text[i] = text[at];
-        at += 1;
-        i += 1;
-    }
-    i
+    let end = to.min(text.len());
+    let start = from.min(end);
+    text.copy_within(start..end, 0);
+    end - start
 }
 
 // Room behind the bytes that are not read: they are moved to the front. Where they fill the memory,
@@ -125,17 +122,10 @@ pub fn more(lines: Lines, got: usize, long: usize) -> Lines
 {
     if digits::has_room(long, lines.end, got) {
         Lines {
-            start: lines.start,
             end: lines.end + got,
-            long: lines.long,
+            ..lines
         }
     } else {
         lines
     }
-}
-
-fn least(a: usize, b: usize) -> usize
-    ensures { result ≡ min a b }
-{
-    if a < b { a } else { b }
 }

@@ -1,15 +1,6 @@
 -- The pieces of a send as a row of slots: those before the last and the last; and a segmented send's context descriptor before them.
 -- Assumes nothing.
-use Prim.Native.Nat.{ℕ, ◌+◌, ◌-◌, ◌*◌, ◌%◌, ◌^◌, ◌≤◌, ◌<◌}
-use mathlib.Core.Path.{◌≡◌, sym, ap, ap₂, ◌∙◌}
-use mathlib.Core.Bool.{true, false}
-use mathlib.Core.List.{List, [], ◌∷◌}
-use native.Mathlib.Nat.{add-zero, mod-eq_of_lt}
-use native.Mathlib.Omega.{arith}
-use borrow.Author.Tests.{eq-eqb, ne_eqb}
-use lib.Bits.{bit_or}
-use lib.Pow.{shl_exact}
-use lib.ListN.{length, get_or}
+use Rattle.std.proofs.Common.{ℕ, ◌+◌, ◌-◌, ◌*◌, ◌%◌, ◌^◌, ◌≤◌, ◌<◌, ◌≡◌, sym, ap, ap₂, ◌∙◌, true, false, List, [], ◌∷◌, add-zero, mod-eq_of_lt, arith, eq-eqb, ne_eqb, bit_or, shl_exact, length, get_or}
 use Rattle.field.specs.Field.{placed, word_of}
 use Rattle.slots.specs.Slots.{slot_at}
 use Rattle.slots.specs.Memory.{store, store_run}

@@ -1,13 +1,6 @@
 -- Which descriptor of a send stands where: piece i comes after as many slots as i pieces take, and the context descriptor first.
 -- Assumes nothing.
-use Prim.Native.Nat.{ℕ, ◌+◌, ◌-◌, ◌<◌}
-use mathlib.Core.Path.{◌≡◌, refl, sym, ap}
-use mathlib.Core.Bool.{Bool, true, false, cond}
-use mathlib.Core.List.{List}
-use native.Mathlib.Omega.{arith}
-use borrow.Author.Tests.{ne_eqb}
-use lib.Dec.{eqb}
-use lib.ListN.{length}
+use Rattle.std.proofs.Common.{ℕ, ◌+◌, ◌-◌, ◌<◌, ◌≡◌, refl, sym, ap, Bool, true, false, cond, List, arith, ne_eqb, eqb, length}
 use Rattle.request.specs.declared.Request.{Request}
 use Rattle.request.specs.Request.{slots_of}
 use Rattle.fill.specs.Descriptors.{piece_numbers, context_numbers, descriptor}

@@ -1,10 +1,6 @@
 -- Rows of slots, seen from another side: two rows with the same numbers, and a row by its first slots and the rest.
 -- Assumes nothing.
-use Prim.Native.Nat.{ℕ, zero, suc, ◌+◌, ◌<◌}
-use mathlib.Core.Path.{◌≡◌, refl, ap, ◌∙◌}
-use mathlib.Core.List.{List}
-use native.Mathlib.Nat.{add-zero}
-use native.Mathlib.Omega.{arith}
+use Rattle.std.proofs.Common.{ℕ, zero, suc, ◌+◌, ◌<◌, ◌≡◌, refl, ap, ◌∙◌, List, add-zero, arith}
 use Rattle.slots.specs.Slots.{slot_at}
 use Rattle.slots.specs.Memory.{store, store_run}
 use Rattle.slots.proofs.Steps.{slot_on}

@@ -1,14 +1,9 @@
 -- A value joined by `|` into a field that is 0, and so a piece's length into what is alike on all pieces of a send.
 -- Assumes nothing.
-use Prim.Native.Nat.{ℕ, ◌+◌, ◌*◌, ◌/◌, ◌%◌, ◌^◌, ◌<◌}
-use mathlib.Core.Path.{◌≡◌, sym, ap, ap₂, ◌∙◌, subst}
-use mathlib.Core.Bool.{Bool}
-use mathlib.Core.List.{[], ◌∷◌}
-use native.Mathlib.Nat.{mod-lt, zero-mul, zero-add, add-zero, lt_of_lt_of_le}
-use native.Mathlib.Omega.{arith}
+use Rattle.std.proofs.Common.{ℕ, ◌+◌, ◌*◌, ◌/◌, ◌%◌, ◌^◌, ◌<◌, ◌≡◌, sym, ap, ap₂, ◌∙◌, subst, Bool, [], ◌∷◌, mod-lt, zero-mul, zero-add, add-zero, lt_of_lt_of_le, arith, bit_or, pow_pos, pow-add, pow_mono}
 use lib.Arith.{digits_lt}
-use lib.Bits.{bit_or, or_block, or_shifted_r, or_zero_r}
-use lib.Pow.{pow_pos, pow-add, pow_mono, split, mod-pow-add}
+use lib.Bits.{or_block, or_shifted_r, or_zero_r}
+use lib.Pow.{split, mod-pow-add}
 use Rattle.field.specs.Field.{field_of, placed, word_of}
 use Rattle.field.proofs.Laws.{reads}
 use Rattle.descriptor.specs.Words.{data_parts, data_word, length_line}

@@ -34,11 +34,9 @@ fn put_leading(
 {
     let last = lengths.len() - 1;
     let mut at = start;
-    let mut i = 0;
-    while i < last {
-        put_slot(ring, at, addresses[i], alike | lengths[i] << LENGTH);
+    for (&address, &length) in addresses.iter().zip(&lengths[..last]) {
+        put_slot(ring, at, address, alike | length << LENGTH);
         at = slots::next(at, size);
-        i += 1;
     }
     at
 }

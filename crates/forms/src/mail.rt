@@ -1,6 +1,7 @@
 // The forms of the mailbox's lines.
+use crate::are_bits;
 use command::Command;
-use script::{ELEMENTS, Given, MAIL_BUFFER, MAIL_RING};
+use script::{ELEMENTS, MAIL_BUFFER, MAIL_RING, Numbers};
 
 // The highest byte, and the highest 32-bit number.
 const MOST_BYTE: u64 = 0xff;
@@ -25,38 +26,34 @@ fn is_lent(ring: u64, list: u64) -> bool {
     (ring <= MAIL_RING as u64) & (list <= ELEMENTS as u64)
 }
 
-fn is_send(given: Given) -> bool {
-    (given.n0 <= 1)
-        & (given.n3 <= MAIL_BUFFER as u64)
-        & (given.n4 <= 1)
-        & (given.n5 <= 1)
-        & (given.n6 <= 1)
+fn is_send(numbers: &Numbers) -> bool {
+    (numbers[0] <= 1) & (numbers[3] <= MAIL_BUFFER as u64) & are_bits(&numbers[4..7])
 }
 
-fn is_shutdown(given: Given) -> bool {
-    (given.n0 <= 1) & (given.n1 <= 1) & (given.n2 <= 1) & (given.n3 <= 1)
+fn is_shutdown(numbers: &Numbers) -> bool {
+    are_bits(&numbers[..4])
 }
 
-fn is_post(given: Given) -> bool {
-    (given.n2 <= MAIL_BUFFER as u64) & (given.n3 <= 1) & (given.n4 <= 1)
+fn is_post(numbers: &Numbers) -> bool {
+    (numbers[2] <= MAIL_BUFFER as u64) & are_bits(&numbers[3..5])
 }
 
 // Whether the numbers behind a command of the mailbox are in range; those of any other are.
-pub(crate) fn in_range(command: Command, given: Given) -> bool {
+pub(crate) fn in_range(command: Command, numbers: &Numbers) -> bool {
     match command {
-        Command::MtxSet => (given.n3 <= 1) & is_lent(given.n4, given.n5),
-        Command::MrxSet => is_lent(given.n3, given.n4),
+        Command::MtxSet => (numbers[3] <= 1) & is_lent(numbers[4], numbers[5]),
+        Command::MrxSet => is_lent(numbers[3], numbers[4]),
         Command::MtxPoke | Command::MrxPoke => {
-            (given.n0 < MAIL_RING as u64) & (given.n1 <= MOST_BYTE)
+            (numbers[0] < MAIL_RING as u64) & (numbers[1] <= MOST_BYTE)
         }
-        Command::Mbuf => (given.n0 < MAIL_BUFFER as u64) & (given.n1 <= MOST_BYTE),
+        Command::Mbuf => (numbers[0] < MAIL_BUFFER as u64) & (numbers[1] <= MOST_BYTE),
         Command::MtxList | Command::MrxList => {
-            (given.n0 < ELEMENTS as u64) & (given.n1 <= MOST_WORD)
+            (numbers[0] < ELEMENTS as u64) & (numbers[1] <= MOST_WORD)
         }
-        Command::Msend => is_send(given),
-        Command::Mshut => is_shutdown(given),
-        Command::Mpost => is_post(given),
-        Command::Mdone | Command::Mread => given.n0 <= MAIL_BUFFER as u64,
+        Command::Msend => is_send(numbers),
+        Command::Mshut => is_shutdown(numbers),
+        Command::Mpost => is_post(numbers),
+        Command::Mdone | Command::Mread => numbers[0] <= MAIL_BUFFER as u64,
         _ => true,
     }
 }

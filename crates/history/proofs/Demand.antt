@@ -1,12 +1,8 @@
 -- Demand 3, of every history of a fresh receive queue that the device's rules allow. Assumes nothing.
-use Prim.Native.Nat.{ℕ, ◌-◌}
-use native.Mathlib.Omega.{arith}
-use mathlib.Core.Path.{◌≡◌, refl, sym, ap, ◌∙◌}
-use mathlib.Core.Logic.{◌≢◌}
-use mathlib.Core.Bool.{true≢false}
-use mathlib.Core.List.{List, [], ◌∷◌, ◌++◌, map, append_assoc, append-nil, map-append}
-use lib.ListN.{length, take-append-drop, length-append, length-map}
-use lib.Seq.{drop_at, drop-length, drop-append_seam}
+use Rattle.std.proofs.Common.{ℕ, ◌-◌, arith, ◌≡◌, refl, sym, ap, ◌∙◌, ◌≢◌, true≢false, List, [], ◌∷◌, ◌++◌, map, append_assoc, append-nil, length, take-append-drop, length-append, drop_at, Err, is_ok}
+use Rattle.std.proofs.lemmas.List.{map-append, length-map}
+use lib.Seq.{drop-length, drop-append_seam}
+use Rattle.rules.specs.declared.Refusal.TheVariants.{NotYet}
 use Rattle.ring.specs.Queue.{slot_of, tail_of}
 use Rattle.ring.proofs.Record.{tail_free}
 use Rattle.places.specs.Words.{Words}
@@ -62,16 +58,16 @@ row_length (p ∷ ps) = rw (length-append, row_length ps)
 -- all that a take gives back, by the whole packets in the slots written and not handed back
 pub take_next : (w : World) (ps : List (List Slot)) → seen w ≡ first ps → take_at w ≡ next_of w.queue (map packet_of ps)
 unfolding next_of packet_of
-take_next w [] e = take_none w 4 e
+take_next w [] e = take_none w NotYet e
 take_next w (p ∷ ps) e = take_some w p e
 
 -- the answer is 4 exactly if none waits
-pub next_four : (q : RxQueue) (ps : List Packet) → (next_of q ps).answer ≡ 4 → ps ≡ []
+pub next_four : (q : RxQueue) (ps : List Packet) → (next_of q ps).answer ≡ Err NotYet → ps ≡ []
 unfolding next_of
 next_four q [] e = refl
-next_four q (p ∷ ps) e = absurd (omega arith)
+next_four q (p ∷ ps) e = absurd (true≢false (ap is_ok e))
 
-four_next : (q : RxQueue) → (next_of q []).answer ≡ 4
+four_next : (q : RxQueue) → (next_of q []).answer ≡ Err NotYet
 unfolding next_of
 four_next q = refl
 

@@ -1,15 +1,7 @@
 -- The console's law, of every history of a fresh receive queue that the device's rules allow. Assumes nothing.
-use Prim.Native.Nat.{ℕ, ◌+◌, ◌≤◌}
-use mathlib.Core.Path.{◌≡◌, refl, sym, ap, ◌∙◌}
-use mathlib.Core.Logic.{◌≢◌}
-use mathlib.Core.Bool.{Bool, true, false, cond}
-use mathlib.Core.List.{List, [], ◌∷◌, ◌++◌, map}
-use native.Mathlib.Nat.{zero-add}
-use native.Mathlib.Decide.{ℕ_discrete}
-use native.Mathlib.Omega.{arith}
-use borrow.Author.Tests.{eq-eqb, ne_eqb}
-use lib.Dec.{eqb}
-use lib.ListN.{length, length-append}
+use Rattle.std.proofs.Common.{ℕ, ◌+◌, ◌≤◌, ◌≡◌, refl, sym, ap, ◌∙◌, ◌≢◌, Bool, true, false, cond, List, [], ◌∷◌, ◌++◌, map, zero-add, arith, length, length-append, is_ok}
+use Rattle.rules.specs.Rules.{done}
+use Rattle.rules.proofs.Answers.{done-is_ok, refused-is_ok, done_or_not}
 use Rattle.ring.specs.Sizes.{most_count}
 use Rattle.ring.specs.Queue.{ever_posted, ever_returned}
 use Rattle.ring.specs.Counts.{figures_of, Moved}
@@ -23,7 +15,7 @@ use Rattle.receive.proofs.Counts.{post_moves, take_moves}
 use Rattle.history.specs.World.{World, Event, post, poll, write, post_at, take_at, after, reply, end, replies, AllAllowed, Start}
 use Rattle.history.specs.History.{if_done, accepted_at, accepted, packets_in, handed_up, returned}
 use Rattle.history.specs.Figures.{shown, Accepted, NotLower, StoodStill, Console}
-use Rattle.history.proofs.State.{after_accepted, after_refused, placed, room, fit_shared, start_empty, holds_start}
+use Rattle.history.proofs.State.{after_refused, by_post, placed, room, fit_shared, start_empty, holds_start}
 use Rattle.history.proofs.Run.{Ran, ran}
 use Rattle.history.proofs.Late.{end_append, in_append}
 
@@ -44,18 +36,18 @@ back w e = slots_of (packets_in (reply w e))
 
 take_back : (w : World) → back w poll ≡ (take_at w).packet.count
 unfolding take_at reply packets_in if_done sum
-take_back w = go (ℕ_discrete (take_at w).answer 0)
+take_back w = go (done_or_not (take_at w).answer)
   where
-    none : (take_at w).answer ≢ 0 → (take_at w).packet.count ≡ 0
+    none : (take_at w).answer ≢ done → (take_at w).packet.count ≡ 0
     none ne = ap (λ (t : Taken). t.packet.count) (take_refused w.queue w.ring w.list ne)
 
-    go : Dec ((take_at w).answer ≡ 0) → back w poll ≡ (take_at w).packet.count
-    go (yes e) = rw (eq-eqb _ _ e) (omega arith)
-    go (no ne) = rw (ne_eqb _ _ ne) (sym (none ne))
+    go : Dec ((take_at w).answer ≡ done) → back w poll ≡ (take_at w).packet.count
+    go (yes e) = rw (done-is_ok _ e) (omega arith)
+    go (no ne) = rw (refused-is_ok _ ne) (sym (none ne))
 
 event_moves : (w : World) (e : Event) → Moved w.queue.shared (after w e).queue.shared (length (accepted_at w e)) (back w e)
 unfolding after post_at take_at accepted_at if_done reply packets_in sum
-event_moves w (post a) = go (eqb (post_at w a).answer 0) (post_moves w.queue w.ring w.list a)
+event_moves w (post a) = go (is_ok (post_at w a).answer) (post_moves w.queue w.ring w.list a)
   where
     go : (b : Bool) → Moved w.queue.shared (post_at w a).queue.shared (cond b 1 0) 0 → Moved w.queue.shared (post_at w a).queue.shared (length (cond b (a ∷ []) [])) 0
     go true m = m
@@ -65,13 +57,13 @@ event_moves w (write x) = stay w.queue.shared
 
 -- an event is an accepted call, which moves a figure, or nothing comes of it for record and console
 decided : (w : World) (e : Event) → Dec (Accepted w e)
-decided w (post a) = ℕ_discrete (post_at w a).answer 0
-decided w poll = ℕ_discrete (take_at w).answer 0
+decided w (post a) = done_or_not (post_at w a).answer
+decided w poll = done_or_not (take_at w).answer
 decided w (write x) = no (λ n. n)
 
 some_moves : (w : World) (e : Event) → Accepted w e → 1 ≤ length (accepted_at w e) + back w e
 unfolding accepted_at if_done take_at
-some_moves w (post a) h = rw (eq-eqb _ _ h) (omega arith)
+some_moves w (post a) h = rw (done-is_ok _ h) (omega arith)
 some_moves w poll h = rw (take_back w) (omega (arith, (hands_up w.queue w.ring w.list h).some))
 some_moves w (write x) h = absurd h
 
@@ -82,12 +74,12 @@ record NothingCame (w : World) (e : Event) : Type 0 where
 
 nothing_came : (w : World) (e : Event) → (Accepted w e → ⊥) → NothingCame w e
 unfolding after take_at accepted_at if_done reply packets_in
-nothing_came w (post a) h = record { queue_same = ap (λ (v : World). v.queue) (after_refused w a h); not_posted = rw (ne_eqb _ _ h); not_up = refl }
+nothing_came w (post a) h = record { queue_same = ap (λ (v : World). v.queue) (after_refused w a h); not_posted = rw (refused-is_ok _ h); not_up = refl }
 nothing_came w poll h =
     record {
       queue_same = ap (λ (t : Taken). t.queue) (take_refused w.queue w.ring w.list h);
       not_posted = refl;
-      not_up = rw (ne_eqb _ _ h);
+      not_up = rw (refused-is_ok _ h);
     }
 nothing_came w (write x) h = record { queue_same = refl; not_posted = refl; not_up = refl }
 
@@ -104,11 +96,7 @@ every_accepted_lem w e a s = let z = none_moved (event_moves w e) s in omega (ar
 -- the count of slots ever posted never passes its most, since a post without room is refused
 post_fits : (w : World) (a : ℕ) → ever_posted w.queue.shared ≤ most_count → ever_posted (after w (post a)).queue.shared ≤ most_count
 unfolding placed
-post_fits w a h = go (ℕ_discrete (post_at w a).answer 0)
-  where
-    go : Dec ((post_at w a).answer ≡ 0) → ever_posted (after w (post a)).queue.shared ≤ most_count
-    go (yes e) = rw (after_accepted w a e) (room w a e).count_room
-    go (no ne) = rw (after_refused w a ne) h
+post_fits w a h = by_post w a (λ v. ever_posted v.queue.shared ≤ most_count) (λ e. (room w a e).count_room) (λ ne. h)
 
 event_fits : (w : World) (e : Event) → ever_posted w.queue.shared ≤ most_count → ever_posted (after w e).queue.shared ≤ most_count
 unfolding after take_at

@@ -1,15 +1,10 @@
 -- The device as late as can be: its writes change places with the calls that do not hand them up. Assumes nothing.
-use Prim.Native.Nat.{ℕ, zero, suc, ◌+◌, ◌%◌, ◌≤◌, ◌<◌}
-use native.Mathlib.Nat.{mod-mod, mod-eq_of_lt, suc-mod, add-zero, add-suc}
-use native.Mathlib.Decide.{ℕ_discrete}
-use native.Mathlib.Omega.{arith}
-use mathlib.Core.Path.{◌≡◌, refl, sym, ap, ◌∙◌, subst}
-use mathlib.Core.Logic.{◌≢◌, ◌⊎◌, inl, inr}
-use mathlib.Core.Bool.{cond}
-use mathlib.Core.List.{List, [], ◌∷◌, ◌++◌, map, append_assoc, append-nil, map-append}
-use lib.Dec.{eqb}
-use lib.ListN.{length, take, drop, length-append, take-append-drop}
-use lib.Seq.{take-append_seam, length-take-le}
+use Rattle.std.proofs.Common.{ℕ, zero, suc, ◌+◌, ◌%◌, ◌≤◌, ◌<◌, mod-eq_of_lt, add-zero, add-suc, arith, ◌≡◌, refl, sym, ap, ◌∙◌, subst, ◌≢◌, ◌⊎◌, inl, inr, cond, List, [], ◌∷◌, ◌++◌, map, append_assoc, append-nil, length, take, drop, length-append, take-append-drop, length-take-le, is_ok}
+use native.Mathlib.Nat.{mod-mod, suc-mod}
+use Rattle.std.proofs.lemmas.List.{map-append}
+use lib.Seq.{take-append_seam}
+use Rattle.rules.specs.declared.Refusal.TheVariants.{NotYet}
+use Rattle.rules.specs.Rules.{Answer}
 use Rattle.slots.specs.Slots.{slot_at}
 use Rattle.ring.specs.Queue.{tail_of}
 use Rattle.slots.proofs.Steps.{apart}
@@ -24,7 +19,7 @@ use Rattle.history.specs.History.{filled, packets, packets_in}
 use Rattle.history.specs.Late.{late_from, NoneLeft, JustBefore}
 use Rattle.history.proofs.Lists.{LegalWords, open_after, filled_short, Cut, cut, cut_first, legal_append, legal_split}
 use Rattle.history.proofs.Ring.{pair}
-use Rattle.history.proofs.State.{seen, placed, moved, stored, after_accepted, after_refused, after_none, take_none, after_some, take_some, fit_shared, room, Holds, holds_count, holds_write, holds_take, seen_first}
+use Rattle.history.proofs.State.{seen, placed, moved, stored, after_accepted, after_refused, by_post, after_none, take_none, after_some, take_some, fit_shared, room, Holds, holds_count, holds_write, holds_take, seen_first}
 use Rattle.history.proofs.Run.{post_holds}
 
 -- ---- two lists of events, one after the other
@@ -164,11 +159,10 @@ placed_stored v x a free =
     (store_comm 2 v.ring v.place (pair x) (tail_of v.queue.shared) (pair (blank a)) refl refl free)
 
 post_stored : (v : World) (x : Words) (a : ℕ) → v.place ≢ tail_of v.queue.shared → after (stored v x) (post a) ≡ stored (after v (post a)) x
-post_stored v x a free = go (ℕ_discrete (post_at v a).answer 0)
-  where
-    go : Dec ((post_at v a).answer ≡ 0) → after (stored v x) (post a) ≡ stored (after v (post a)) x
-    go (yes e) = rw (after_accepted v a e, after_accepted (stored v x) a (answer_stored v x a ∙ e)) (placed_stored v x a free)
-    go (no ne) = rw (after_refused v a ne, after_refused (stored v x) a (λ z. ne (sym (answer_stored v x a) ∙ z)))
+post_stored v x a free =
+    by_post v a (λ u. after (stored v x) (post a) ≡ stored u x)
+    (λ e. after_accepted (stored v x) a (answer_stored v x a ∙ e) ∙ placed_stored v x a free)
+    (λ ne. after_refused (stored v x) a (λ z. ne (sym (answer_stored v x a) ∙ z)))
 
 post_wrote : (v : World) (d : ℕ) (D : List Words) (a : ℕ) → Can v d D → after (wrote v D) (post a) ≡ wrote (after v (post a)) D
 unfolding end after
@@ -180,7 +174,7 @@ post_wrote v d (x ∷ D) a c =
 reply_stored : (v : World) (x : Words) (a : ℕ) → post_at (stored v x) a ≡ post_at v a
 unfolding after post_at
 reply_stored v x a =
-    ap (λ (n : ℕ). record { answer = n; queue = cond (eqb n 0) (one_more v.queue) v.queue }) (answer_stored v x a)
+    ap (λ (n : Answer). record { answer = n; queue = cond (is_ok n) (one_more v.queue) v.queue }) (answer_stored v x a)
 
 reply_wrote : (v : World) (D : List Words) (a : ℕ) → post_at (wrote v D) a ≡ post_at v a
 unfolding end after
@@ -189,11 +183,8 @@ reply_wrote v (x ∷ D) a = reply_wrote (stored v x) D a ∙ reply_stored v x a
 
 post_can : (v : World) (d : ℕ) (D : List Words) (a : ℕ) → Can v d D → Can (after v (post a)) d D
 unfolding placed
-post_can v d D a c = go (ℕ_discrete (post_at v a).answer 0)
-  where
-    go : Dec ((post_at v a).answer ≡ 0) → Can (after v (post a)) d D
-    go (yes e) = rw (after_accepted v a e) (record { place = c.place; room = omega (arith, c.room); lap = (room v a e).room; legal = c.legal })
-    go (no ne) = rw (after_refused v a ne) c
+post_can v d D a c =
+    by_post v a (λ u. Can u d D) (λ e. record { place = c.place; room = omega (arith, c.room); lap = (room v a e).room; legal = c.legal }) (λ ne. c)
 
 -- ---- a write and a take of slots before it change places
 
@@ -243,15 +234,15 @@ unfolding late_from replies reply end
 later_write x es v w D r = record { allowed = r.allowed; just = r.just; tells = r.tells; ends = r.ends }
 
 -- a take that finds no packet, with and without the writes held back
-later_none : (es : List Event) (v w : World) (D : List Words) → seen v ≡ refuse 4 → seen w ≡ refuse 4 → v.queue ≡ w.queue → NoneLeft v
+later_none : (es : List Event) (v w : World) (D : List Words) → seen v ≡ refuse NotYet → seen w ≡ refuse NotYet → v.queue ≡ w.queue → NoneLeft v
     → Later v w D es → Later v w D (poll ∷ es)
 unfolding late_from replies reply end packet_of
 later_none es v w D sv sw q n r =
     record {
-      allowed = rw (take_none w 4 sw, after_none w 4 sw) (tt, rw (after_none v 4 sv) r.allowed);
-      just = rw (take_none w 4 sw, after_none w 4 sw, after_none v 4 sv) (n, r.just);
-      tells = rw (take_none w 4 sw, after_none w 4 sw, take_none v 4 sv, after_none v 4 sv, r.tells, q);
-      ends = rw (take_none w 4 sw, after_none w 4 sw, after_none v 4 sv) r.ends;
+      allowed = rw (take_none w NotYet sw, after_none w NotYet sw) (tt, rw (after_none v NotYet sv) r.allowed);
+      just = rw (take_none w NotYet sw, after_none w NotYet sw, after_none v NotYet sv) (n, r.just);
+      tells = rw (take_none w NotYet sw, after_none w NotYet sw, take_none v NotYet sv, after_none v NotYet sv, r.tells, q);
+      ends = rw (take_none w NotYet sw, after_none w NotYet sw, after_none v NotYet sv) r.ends;
     }
 
 -- a take that hands up a packet: as many of the writes held back come before it
@@ -281,7 +272,7 @@ later_some es v w D p c sv sw q n r =
     v₁ : World
     v₁ = wrote v (take (length p) D)
 
-seen_none : (v : World) (A : List ℕ) → Holds v [] A → seen v ≡ refuse 4
+seen_none : (v : World) (A : List ℕ) → Holds v [] A → seen v ≡ refuse NotYet
 unfolding packets
 seen_none v A h = seen_first v [] A h
 
@@ -364,8 +355,8 @@ later (poll ∷ es) v w D A e h c t = go (cut w.queue.buffer 0 (filled A D) hw.1
         → ((v' w' : World) (D' : List Words) (A' : List ℕ) → wrote v' D' ≡ w' → Holds v' [] A' → Can v' 0 D' → AllAllowed w' es → Later v' w' D' es)
         → Later v w D (poll ∷ es)
     go (inl n) ih =
-        let sw : seen w ≡ refuse 4 = seen_first w (filled A D) hw.0 hw.1 ∙ rw n in
-        later_none es v w D (seen_none v A h) sw queue_same (holds_left v A h) (ih v w D A e h c (rw (after_none w 4 sw) at t.1))
+        let sw : seen w ≡ refuse NotYet = seen_first w (filled A D) hw.0 hw.1 ∙ rw n in
+        later_none es v w D (seen_none v A h) sw queue_same (holds_left v A h) (ih v w D A e h c (rw (after_none w NotYet sw) at t.1))
     go (inr k) ih =
         let f = front v D A w.queue.buffer h c k in
         let sw : seen w ≡ whole k.head = seen_first w (filled A D) hw.0 hw.1 ∙ rw (cut_first w.queue.buffer 0 (filled A D) k) in

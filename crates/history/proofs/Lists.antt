@@ -1,12 +1,6 @@
 -- Packets in a run of written slots: what take sees of it, and how it is cut. No ring is in this file. Assumes nothing.
-use Prim.Native.Nat.{ℕ, suc, ◌≤◌}
-use native.Mathlib.Omega.{arith}
-use mathlib.Core.Path.{◌≡◌, refl, ap, ◌∙◌}
-use mathlib.Core.Bool.{Bool, true, false, not, ◌&&◌, cond}
-use mathlib.Core.Logic.{◌⊎◌, inl, inr}
-use mathlib.Core.List.{List, [], ◌∷◌, ◌++◌, map, append_assoc}
-use lib.Dec.{T}
-use lib.ListN.{length}
+use Rattle.std.proofs.Common.{ℕ, suc, ◌≤◌, arith, ◌≡◌, refl, ap, ◌∙◌, Bool, true, false, not, ◌&&◌, cond, ◌⊎◌, inl, inr, List, [], ◌∷◌, ◌++◌, map, append_assoc, T, length}
+use Rattle.rules.specs.declared.Refusal.TheVariants.{NotYet, Contradiction}
 use Rattle.places.specs.Words.{Words, dd, eop}
 use Rattle.scan.specs.Slots.{Slot}
 use Rattle.scan.specs.Scan.{allowed, writable, Look, refuse, whole, and_then, scan}
@@ -38,7 +32,7 @@ filled_short (a ∷ A) (x ∷ D) = let h = filled_short A D in (omega arith, ome
 
 -- what take sees where these are the whole packets
 abbrev pub first : List (List Slot) → Look
-first [] = refuse 4
+first [] = refuse NotYet
 first (p ∷ ps) = whole p
 
 first_joined : (s : Slot) (ps : List (List Slot)) → and_then s (first ps) ≡ first (joined s ps)
@@ -46,13 +40,13 @@ unfolding and_then joined
 first_joined s [] = refl
 first_joined s (p ∷ ps) = refl
 
-scan_unwritten : (b k : ℕ) (A : List ℕ) → scan b k (map unwritten A) ≡ refuse 4
+scan_unwritten : (b k : ℕ) (A : List ℕ) → scan b k (map unwritten A) ≡ refuse NotYet
 unfolding scan unwritten
 scan_unwritten b k [] = refl
 scan_unwritten b k (a ∷ A) = refl
 
 -- one slot written by the rules is not refused
-not_refused : (d a : Bool) (seen : Look) → T (d && a) → cond (not d) (refuse 4) (cond (not a) (refuse 5) seen) ≡ seen
+not_refused : (d a : Bool) (seen : Look) → T (d && a) → cond (not d) (refuse NotYet) (cond (not a) (refuse Contradiction) seen) ≡ seen
 not_refused true true seen t = refl
 not_refused true false seen t = absurd t
 not_refused false a seen t = absurd t

@@ -1,12 +1,6 @@
 -- The posted slots of a ring and a companion list: what a store of both words of a slot does to them.
 -- Assumes nothing.
-use Prim.Native.Nat.{ℕ, ◌+◌, ◌*◌, ◌<◌}
-use native.Mathlib.Nat.{mod-lt}
-use native.Mathlib.Omega.{arith}
-use mathlib.Core.Path.{◌≡◌, refl, sym, ap, ◌∙◌}
-use mathlib.Core.Logic.{◌≢◌}
-use mathlib.Core.List.{List, [], ◌∷◌}
-use lib.ListN.{length, get_or, set}
+use Rattle.std.proofs.Common.{ℕ, ◌+◌, ◌*◌, ◌<◌, mod-lt, arith, ◌≡◌, refl, sym, ap, ◌∙◌, ◌≢◌, List, [], ◌∷◌, length, get_or, set}
 use Rattle.slots.specs.Slots.{slot_at, run}
 use Rattle.slots.proofs.Stores.{read_same, read_other}
 use Rattle.slots.proofs.Runs.{get_or_run, run_inside}

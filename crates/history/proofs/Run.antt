@@ -1,12 +1,9 @@
 -- One event, and then any list of them: what is handed up is cut from the front of what the device has written. Assumes nothing.
-use Prim.Native.Nat.{ℕ}
-use native.Mathlib.Decide.{ℕ_discrete}
-use borrow.Author.Tests.{ne_eqb}
-use mathlib.Core.Path.{◌≡◌, refl, ◌∙◌}
-use mathlib.Core.Bool.{Bool, true, false, cond}
-use mathlib.Core.Logic.{◌⊎◌, inl, inr}
-use mathlib.Core.List.{List, [], ◌∷◌, ◌++◌, map, append_assoc, append-nil, map-append}
-use lib.ListN.{length, drop}
+use Rattle.std.proofs.Common.{ℕ, ◌≡◌, refl, ◌∙◌, Bool, true, false, cond, ◌⊎◌, inl, inr, List, [], ◌∷◌, ◌++◌, map, append_assoc, append-nil, length, drop, Err}
+use Rattle.std.proofs.lemmas.List.{map-append}
+use Rattle.rules.specs.declared.Refusal.TheVariants.{WrongAddress, NoRoom, NotYet}
+use Rattle.rules.specs.Rules.{done, number_of}
+use Rattle.rules.proofs.Answers.{refused-is_ok, done_or_not}
 use Rattle.rules.specs.Address.{address_wrong}
 use Rattle.ring.specs.Queue.{no_room}
 use Rattle.places.specs.Words.{Words}
@@ -41,18 +38,18 @@ pub record Step (w : World) (L : List Slot) (A : List ℕ) (e : Event) : Type 0 
 
 pub post_holds : (w : World) (L : List Slot) (A : List ℕ) (a : ℕ) → Holds w L A → Holds (after w (post a)) L (A ++ accepted_at w (post a))
 unfolding accepted_at if_done
-post_holds w L A a h = go (ℕ_discrete (post_at w a).answer 0)
+post_holds w L A a h = go (done_or_not (post_at w a).answer)
   where
-    go : Dec ((post_at w a).answer ≡ 0) → Holds (after w (post a)) L (A ++ accepted_at w (post a))
+    go : Dec ((post_at w a).answer ≡ done) → Holds (after w (post a)) L (A ++ accepted_at w (post a))
     go (yes e) = rw (e, after_accepted w a e) (holds_post w L A a h e)
-    go (no ne) = rw (ne_eqb _ _ ne, after_refused w a ne, append-nil) h
+    go (no ne) = rw (refused-is_ok _ ne, after_refused w a ne, append-nil) h
 
 -- a post answers 0, 2 or 3
 usual_post : (w : World) (a : ℕ) → Fit w → usual (posted (post_at w a)) ≡ true
 unfolding usual one_of
 usual_post w a f = rw (answer_fit w a f) (go (address_wrong a w.queue.buffer) (no_room w.queue.shared 1))
   where
-    go : (b c : Bool) → one_of (0 ∷ 2 ∷ 3 ∷ []) (cond b 2 (cond c 3 0)) ≡ true
+    go : (b c : Bool) → one_of (0 ∷ 2 ∷ 3 ∷ []) (number_of (cond b (Err WrongAddress) (cond c (Err NoRoom) done))) ≡ true
     go true c = refl
     go false true = refl
     go false false = refl
@@ -79,14 +76,14 @@ step_poll w L A h = go (cut w.queue.buffer 0 L h.legal)
   where
     go : (packets L ≡ []) ⊎ Cut w.queue.buffer 0 L → Step w L A poll
     go (inl n) =
-        let e : seen w ≡ refuse 4 = seen_first w L A h ∙ rw n in
+        let e : seen w ≡ refuse NotYet = seen_first w L A h ∙ rw n in
         record {
           L₁ = L;
           A₁ = A;
-          holds = rw (after_none w 4 e) h;
+          holds = rw (after_none w NotYet e) h;
           up = [];
-          tells = λ rs. rw (take_none w 4 e);
-          fine = λ rs f. rw (take_none w 4 e, f);
+          tells = λ rs. rw (take_none w NotYet e);
+          fine = λ rs f. rw (take_none w NotYet e, f);
           cuts = λ P W. refl;
           logs = λ P W. refl;
           waits = λ P W. refl;

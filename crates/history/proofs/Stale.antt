@@ -1,10 +1,9 @@
 -- No stale write-back is believed, in every history of a fresh receive queue that the device's rules allow. Assumes nothing.
-use Prim.Native.Nat.{ℕ, ◌+◌, ◌<◌}
-use native.Mathlib.Omega.{arith}
-use mathlib.Core.Path.{◌≡◌, refl, sym, ap, ◌∙◌}
-use mathlib.Core.List.{List, [], ◌∷◌, ◌++◌, map}
-use lib.ListN.{length, length-append, length-map}
+use Rattle.std.proofs.Common.{ℕ, ◌+◌, ◌<◌, arith, ◌≡◌, refl, sym, ap, ◌∙◌, List, [], ◌∷◌, ◌++◌, map, length, length-append, Err, is_ok, true≢false}
+use Rattle.std.proofs.lemmas.List.{length-map}
 use lib.Seq.{take_at as take_front, take-append_seam}
+use Rattle.rules.specs.declared.Refusal.TheVariants.{NotYet}
+use Rattle.rules.specs.Rules.{done}
 use Rattle.places.specs.Words.{Words}
 use Rattle.receive.specs.declared.RxQueue.{RxQueue}
 use Rattle.receive.specs.declared.Packet.{Packet}
@@ -144,20 +143,20 @@ any_contents w v es f g q t =
 -- ---- no packet is made of anything but the device's writes
 
 -- where no packet is complete and nothing is written, takes go on to say 4
-quiet_from : (w : World) (L : List Slot) (A : List ℕ) (es : List Event) → Holds w L A → packets L ≡ [] → writes es ≡ [] → (take_at (end w es)).answer ≡ 4
+quiet_from : (w : World) (L : List Slot) (A : List ℕ) (es : List Event) → Holds w L A → packets L ≡ [] → writes es ≡ [] → (take_at (end w es)).answer ≡ Err NotYet
 unfolding end writes write_at
-quiet_from w L A [] h n e = rw (take_none w 4 (seen_first w L A h ∙ rw n))
+quiet_from w L A [] h n e = rw (take_none w NotYet (seen_first w L A h ∙ rw n))
 quiet_from w L A (post a ∷ es) h n e = quiet_from (after w (post a)) L (A ++ accepted_at w (post a)) es (post_holds w L A a h) n e
-quiet_from w L A (poll ∷ es) h n e = rw (after_none w 4 (seen_first w L A h ∙ rw n)) (quiet_from w L A es h n e)
+quiet_from w L A (poll ∷ es) h n e = rw (after_none w NotYet (seen_first w L A h ∙ rw n)) (quiet_from w L A es h n e)
 quiet_from w L A (write x ∷ es) h n e = cc
 
 none_mapped : (ps : List (List Slot)) → map packet_of ps ≡ [] → ps ≡ []
 none_mapped [] e = refl
 none_mapped (p ∷ ps) e = cc
 
-some_waits : (q : RxQueue) (ps : List Packet) → (next_of q ps).answer ≡ 0 → 0 < length ps
+some_waits : (q : RxQueue) (ps : List Packet) → (next_of q ps).answer ≡ done → 0 < length ps
 unfolding next_of
-some_waits q [] e = absurd (omega arith)
+some_waits q [] e = absurd (true≢false (ap is_ok (sym e)))
 some_waits q (p ∷ ps) e = omega arith
 
 pub no_stale : (w : World) (es : List Event) → Start w → AllAllowed w es → NoStale w es

@@ -1,16 +1,13 @@
 -- What a history keeps: the posted slots are those that the device has written, by its rules, and then those as posted.
 -- Assumes nothing.
-use Prim.Native.Nat.{ℕ, ◌+◌, ◌-◌, ◌*◌, ◌%◌, ◌<◌}
+use Rattle.std.proofs.Common.{ℕ, ◌+◌, ◌-◌, ◌*◌, ◌%◌, ◌<◌, arith, ◌≡◌, refl, sym, ap, ◌∙◌, ◌≢◌, true, cond, List, [], ◌∷◌, ◌++◌, map, append_assoc, eq-eqb, T, length, set, drop, length-set, length-append, Err}
 use native.Mathlib.Nat.{zero-mod, suc-mod, mod-add-mod}
-use native.Mathlib.Omega.{arith}
-use mathlib.Core.Path.{◌≡◌, refl, sym, ap, ◌∙◌}
-use mathlib.Core.Logic.{◌≢◌}
-use mathlib.Core.Bool.{true, cond}
-use mathlib.Core.List.{List, [], ◌∷◌, ◌++◌, map, append_assoc, map-append}
-use borrow.Author.Tests.{eq-eqb, ne_eqb}
-use lib.Dec.{T}
-use lib.ListN.{length, set, drop, length-set, length-append, length-map}
-use lib.Seq.{drop-append_seam, set_at, get_or_at}
+use Rattle.std.proofs.lemmas.List.{map-append, length-map, set_at, get_or_at}
+use lib.Seq.{drop-append_seam}
+use Rattle.rules.specs.declared.Refusal.{Refusal}
+use Rattle.rules.specs.declared.Refusal.TheVariants.{WrongAddress, NoRoom}
+use Rattle.rules.specs.Rules.{done}
+use Rattle.rules.proofs.Answers.{refused-is_ok, done_or_not}
 use Rattle.rules.specs.Address.{address_wrong}
 use Rattle.slots.specs.Slots.{slot_at, run}
 use Rattle.ring.specs.Queue.{Shared, tail_of, no_room}
@@ -55,20 +52,28 @@ moved w n = record { queue = advanced w.queue n; ring = w.ring; list = w.list; p
 abbrev pub stored : World → Words → World
 stored w x = after w (write x)
 
-pub after_accepted : (w : World) (a : ℕ) → (post_at w a).answer ≡ 0 → after w (post a) ≡ placed w a
+pub after_accepted : (w : World) (a : ℕ) → (post_at w a).answer ≡ done → after w (post a) ≡ placed w a
 unfolding after post_at placed
 after_accepted w a e = rw e
 
-pub after_refused : (w : World) (a : ℕ) → (post_at w a).answer ≢ 0 → after w (post a) ≡ w
+pub after_refused : (w : World) (a : ℕ) → (post_at w a).answer ≢ done → after w (post a) ≡ w
 unfolding after post_at
-after_refused w a ne = rw (ne_eqb _ _ ne)
+after_refused w a ne = rw (refused-is_ok _ ne)
 
-module _ (w : World) (n : ℕ) (e : seen w ≡ refuse n) where
+-- what holds of an accepted post and of the world as it was holds after any post
+pub by_post : (w : World) (a : ℕ) (P : World → Type 0) → ((post_at w a).answer ≡ done → P (placed w a)) → ((post_at w a).answer ≢ done → P w) → P (after w (post a))
+by_post w a P accepts refuses = go (done_or_not (post_at w a).answer)
+  where
+    go : Dec ((post_at w a).answer ≡ done) → P (after w (post a))
+    go (yes e) = rw (after_accepted w a e) (accepts e)
+    go (no ne) = rw (after_refused w a ne) (refuses ne)
+
+module _ (w : World) (r : Refusal) (e : seen w ≡ refuse r) where
   pub after_none : after w poll ≡ w
   unfolding after take_at take_of seen take_by
   after_none = rw e
 
-  pub take_none : take_at w ≡ record { answer = n; queue = w.queue; packet = packet_of [] }
+  pub take_none : take_at w ≡ record { answer = Err r; queue = w.queue; packet = packet_of [] }
   unfolding take_at take_of seen take_by
   take_none = rw e
 
@@ -77,7 +82,7 @@ module _ (w : World) (p : List Slot) (e : seen w ≡ whole p) where
   unfolding after take_at take_of seen take_by moved
   after_some = rw e
 
-  pub take_some : take_at w ≡ record { answer = 0; queue = advanced w.queue (length p); packet = packet_of p }
+  pub take_some : take_at w ≡ record { answer = done; queue = advanced w.queue (length p); packet = packet_of p }
   unfolding take_at take_of seen take_by
   take_some = rw e
 
@@ -96,12 +101,12 @@ unfolding lent_ok
 fit_lent w f = rw (f.ok, eq-eqb _ _ f.ring, eq-eqb _ _ f.list)
 
 pub answer_fit : (w : World) (a : ℕ) → Fit w
-    → (post_at w a).answer ≡ cond (address_wrong a w.queue.buffer) 2 (cond (no_room w.queue.shared 1) 3 0)
+    → (post_at w a).answer ≡ cond (address_wrong a w.queue.buffer) (Err WrongAddress) (cond (no_room w.queue.shared 1) (Err NoRoom) done)
 unfolding post_at post_answer
 answer_fit w a f = rw (fit_lent w f)
 
 -- a post that is accepted had room, and leaves a slot free
-pub room : (w : World) (a : ℕ) → (post_at w a).answer ≡ 0 → Grow w.queue.shared 1
+pub room : (w : World) (a : ℕ) → (post_at w a).answer ≡ done → Grow w.queue.shared 1
 unfolding post_at
 room w a e = done_grows w.queue (length w.ring) (length w.list) a e
 
@@ -109,7 +114,7 @@ pub view_length : (w : World) → length (slots_in w) ≡ w.queue.shared.posted
 unfolding slots_in posted_slots
 view_length w = length_run (slot_in w.ring w.list) w.queue.shared.size w.queue.shared.head w.queue.shared.posted
 
-pub view_placed : (w : World) (a : ℕ) → (post_at w a).answer ≡ 0 → slots_in (placed w a) ≡ slots_in w ++ unwritten a ∷ []
+pub view_placed : (w : World) (a : ℕ) → (post_at w a).answer ≡ done → slots_in (placed w a) ≡ slots_in w ++ unwritten a ∷ []
 unfolding slots_in after post_at unwritten
 view_placed w a e = rw (← after_accepted w a e) (post_adds_lem w.queue w.ring w.list a e)
 
@@ -177,7 +182,7 @@ pub seen_first : (w : World) (L : List Slot) (A : List ℕ) → Holds w L A → 
 unfolding seen look slots_in
 seen_first w L A h = rw (fit_lent w h.fit, h.slots) (scan_legal w.queue.buffer 0 L A h.legal)
 
-pub holds_post : (w : World) (L : List Slot) (A : List ℕ) (a : ℕ) → Holds w L A → (post_at w a).answer ≡ 0 → Holds (placed w a) L (A ++ a ∷ [])
+pub holds_post : (w : World) (L : List Slot) (A : List ℕ) (a : ℕ) → Holds w L A → (post_at w a).answer ≡ done → Holds (placed w a) L (A ++ a ∷ [])
 unfolding placed
 holds_post w L A a h e =
     record {

@@ -1,6 +1,8 @@
 -- Demand 3, sentence by sentence. The events are any history that the device's rules allow, from a fresh receive queue; every
 -- front part of such a history is one too. Assumes nothing.
-use Rattle.std.specs.Prelude.{ℕ, ◌-◌, ◌≡◌, ◌≢◌, Bool, true, false, ◌&&◌, ◌||◌, List, [], ◌∷◌, ◌++◌, map, eqb, length, drop}
+use Rattle.std.specs.Prelude.{ℕ, ◌-◌, ◌≡◌, ◌≢◌, Bool, true, false, ◌&&◌, ◌||◌, List, [], ◌∷◌, ◌++◌, map, eqb, length, drop, Err}
+use Rattle.rules.specs.declared.Refusal.TheVariants.{NotYet}
+use Rattle.rules.specs.Rules.{done, number_of}
 use Rattle.ring.specs.Queue.{slot_of, is_devices}
 use Rattle.receive.specs.declared.RxQueue.{RxQueue}
 use Rattle.receive.specs.declared.Packet.{Packet}
@@ -13,8 +15,8 @@ use Rattle.history.specs.Late.{late, calls, JustBefore}
 
 -- what a take gives back where these packets are completed and not yet handed up
 unfoldable pub next_of : RxQueue → List Packet → Taken
-next_of q [] = record { answer = 4; queue = q; packet = packet_of [] }
-next_of q (p ∷ ps) = record { answer = 0; queue = advanced q p.count; packet = p }
+next_of q [] = record { answer = Err NotYet; queue = q; packet = packet_of [] }
+next_of q (p ∷ ps) = record { answer = done; queue = advanced q p.count; packet = p }
 
 -- the numbers that come back in a history: of a post 0, 2 or 3, of a take 0 or 4
 unfoldable pub one_of : List ℕ → ℕ → Bool
@@ -22,8 +24,8 @@ one_of [] n = false
 one_of (m ∷ ms) n = eqb n m || one_of ms n
 
 unfoldable pub usual : Reply → Bool
-usual (posted r) = one_of (0 ∷ 2 ∷ 3 ∷ []) r.answer
-usual (taken r) = one_of (0 ∷ 4 ∷ []) r.answer
+usual (posted r) = one_of (0 ∷ 2 ∷ 3 ∷ []) (number_of r.answer)
+usual (taken r) = one_of (0 ∷ 4 ∷ []) (number_of r.answer)
 
 unfoldable pub all_usual : List Reply → Bool
 all_usual [] = true
@@ -52,8 +54,8 @@ pub record Demand3 (w : World) (es : List Event) : Type 0 where
   pub late_replies : replies w (late w es) ≡ replies w es
   pub late_end : end w (late w es) ≡ end w es
   -- "'not yet' only when everything completed has been handed up": and else a take hands up the next one, so 1 and 5 never come.
-  pub not_yet : (take_at (end w es)).answer ≡ 4 → completed w es ≡ handed_up w es
-  pub all_up : completed w es ≡ handed_up w es → (take_at (end w es)).answer ≡ 4
+  pub not_yet : (take_at (end w es)).answer ≡ Err NotYet → completed w es ≡ handed_up w es
+  pub all_up : completed w es ≡ handed_up w es → (take_at (end w es)).answer ≡ Err NotYet
   pub next_take : take_at (end w es) ≡ next_of (end w es).queue (waiting w es)
   pub every_take : (before later : List Event) → es ≡ before ++ poll ∷ later
       → take_at (end w before) ≡ next_of (end w before).queue (waiting w before)
@@ -63,4 +65,4 @@ pub record Demand3 (w : World) (es : List Event) : Type 0 where
   pub unreturned : slots_in (end w es) ≡ drop (returned w es) (written w es) ++ map unwritten (drop (length (writes es)) (accepted w es))
   pub post_keeps : (a s : ℕ) → Unreturned (end w es) s → slot_no (after (end w es) (post a)) s ≡ slot_no (end w es) s
   pub post_adds : (a : ℕ) → slots_in (after (end w es) (post a)) ≡ slots_in (end w es) ++ map unwritten (accepted_at (end w es) (post a))
-  pub refused_keeps : (a : ℕ) → (post_at (end w es) a).answer ≢ 0 → after (end w es) (post a) ≡ end w es
+  pub refused_keeps : (a : ℕ) → (post_at (end w es) a).answer ≢ done → after (end w es) (post a) ≡ end w es

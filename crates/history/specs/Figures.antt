@@ -1,6 +1,7 @@
 -- The console's law (02, "A figure that moves on the console page"): the two figures of a receive queue, in any history that the device's rules
 -- allow, from a fresh queue. They move exactly when a slot does. Assumes nothing.
 use Rattle.std.specs.Prelude.{◌+◌, ◌≤◌, ◌≡◌, ◌≢◌, List, [], ◌++◌, length}
+use Rattle.rules.specs.Rules.{done}
 use Rattle.ring.specs.Sizes.{most_count}
 use Rattle.ring.specs.Counts.{Figures, figures_of}
 use Rattle.history.specs.World.{World, Event, post, poll, write, post_at, take_at, after, end}
@@ -12,8 +13,8 @@ shown w = figures_of w.queue.shared
 
 -- an event that is an accepted call
 abbrev pub Accepted : World → Event → Type 0
-Accepted w (post a) = (post_at w a).answer ≡ 0
-Accepted w poll = (take_at w).answer ≡ 0
+Accepted w (post a) = (post_at w a).answer ≡ done
+Accepted w poll = (take_at w).answer ≡ done
 Accepted w (write x) = ⊥
 
 -- neither figure is lower than it was

@@ -1,6 +1,7 @@
 -- What happened in a history of events: the buffers posted, the device's writes, the packets completed and those handed up.
 -- Assumes nothing.
-use Rattle.std.specs.Prelude.{ℕ, cond, List, [], ◌∷◌, ◌++◌, map, eqb, length, drop}
+use Rattle.std.specs.Prelude.{ℕ, cond, List, [], ◌∷◌, ◌++◌, map, is_ok, length, drop}
+use Rattle.rules.specs.Rules.{Answer}
 use Rattle.places.specs.Words.{Words, eop}
 use Rattle.receive.specs.declared.Packet.{Packet}
 use Rattle.scan.specs.Slots.{Slot}
@@ -9,9 +10,9 @@ use Rattle.scan.specs.Told.{sum}
 use Rattle.receive.specs.Take.{packet_of}
 use Rattle.history.specs.World.{World, Event, post, poll, write, Reply, posted, taken, post_at, after, replies}
 
--- what goes with an answer of 0
-unfoldable pub if_done {ℓ} : {A : Type ℓ} → ℕ → A → List A
-if_done n a = cond (eqb n 0) (a ∷ []) []
+-- what goes with a call that is done
+unfoldable pub if_done {ℓ} : {A : Type ℓ} → Answer → A → List A
+if_done r a = cond (is_ok r) (a ∷ []) []
 
 -- ---- the addresses of the accepted posts, in order
 

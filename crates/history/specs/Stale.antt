@@ -1,6 +1,8 @@
 -- No stale write-back is believed: what is left in a slot from an earlier lap, or from before the queue was fresh, is never handed
 -- up as a packet and changes no answer. Assumes nothing.
-use Rattle.std.specs.Prelude.{◌≤◌, ◌<◌, ◌≡◌, List, [], ◌∷◌, ◌++◌, map, length, take}
+use Rattle.std.specs.Prelude.{◌≤◌, ◌<◌, ◌≡◌, List, [], ◌∷◌, ◌++◌, map, length, take, Err}
+use Rattle.rules.specs.declared.Refusal.TheVariants.{NotYet}
+use Rattle.rules.specs.Rules.{done}
 use Rattle.scan.specs.Slots.{Slot}
 use Rattle.receive.specs.Take.{packet_of}
 use Rattle.history.specs.World.{World, Event, slots_in, take_at, end, replies, AllAllowed}
@@ -40,5 +42,5 @@ pub record NoStale (w : World) (es : List Event) : Type 0 where
   -- Write n came after accepted post n, whose buffer it fills: at no time are there more writes than accepted posts.
   pub after_post : length (writes es) ≤ length (accepted w es)
   -- A take hands up a packet only if the device completed one that was not handed up; after a 4, without a write, it is 4 again.
-  pub only_new : (take_at (end w es)).answer ≡ 0 → length (handed_up w es) < length (completed w es)
-  pub quiet : (later : List Event) → (take_at (end w es)).answer ≡ 4 → writes later ≡ [] → (take_at (end w (es ++ later))).answer ≡ 4
+  pub only_new : (take_at (end w es)).answer ≡ done → length (handed_up w es) < length (completed w es)
+  pub quiet : (later : List Event) → (take_at (end w es)).answer ≡ Err NotYet → writes later ≡ [] → (take_at (end w (es ++ later))).answer ≡ Err NotYet

@@ -1,6 +1,7 @@
 -- A receive queue and the device that writes to its ring: what one event does, what a call answers, which writes are allowed.
 -- Assumes nothing.
 use Rattle.std.specs.Prelude.{ℕ, suc, ◌*◌, ◌%◌, ◌≡◌, ◌≢◌, cond, List, [], ◌∷◌, ◌++◌, T, length}
+use Rattle.rules.specs.Rules.{done}
 use Rattle.ring.specs.Queue.{tail_of}
 use Rattle.places.specs.Words.{Words, eop}
 use Rattle.receive.specs.declared.RxQueue.{RxQueue}
@@ -98,7 +99,7 @@ pub record Start (w : World) : Type 0 where
   pub number : ℕ
   pub size : ℕ
   pub buffer : ℕ
-  pub answer_is : (fresh_of number size buffer).answer ≡ 0
+  pub answer_is : (fresh_of number size buffer).answer ≡ done
   pub queue_is : w.queue ≡ (fresh_of number size buffer).queue
   pub ring_long : length w.ring ≡ 2 * w.queue.shared.size
   pub list_long : length w.list ≡ w.queue.shared.size

@@ -1,12 +1,8 @@
 -- An accepted request reads back from its register and word; bits of no field are 0, and the word has 32 bits.
 -- Assumes nothing.
-use Prim.Native.Nat.{ℕ, ◌+◌, ◌*◌, ◌/◌, ◌%◌, ◌^◌, ◌≤◌, ◌<◌}
-use mathlib.Core.Path.{◌≡◌, refl}
-use native.Mathlib.Nat.{div-add-mod'}
-use native.Mathlib.Omega.{arith}
-use borrow.Author.Tests.{ltb-false, eqb-true, not-false}
-use lib.Dec.{T, eqb}
-use Rattle.rules.specs.Rules.{all_below}
+use Rattle.std.proofs.Common.{ℕ, ◌+◌, ◌*◌, ◌/◌, ◌%◌, ◌^◌, ◌≤◌, ◌<◌, ◌≡◌, refl, div-add-mod', arith, ltb-false, eqb-true, T, eqb}
+use borrow.Author.Tests.{not-false}
+use Rattle.rules.specs.Rules.{all_below, done}
 use Rattle.rules.proofs.Tests.{all_each}
 use Rattle.rules.proofs.Checks.{passed}
 use Rattle.field.specs.Field.{field_of, free}
@@ -24,7 +20,7 @@ record Right (q : Request) : Type 0 where
   pub interval : q.interval ≤ most_interval
   pub even : q.interval % interval_unit ≡ 0
 
-right : (q : Request) → interrupt_answer q ≡ 0 → Right q
+right : (q : Request) → interrupt_answer q ≡ done → Right q
 right q e =
     let n = passed (interrupt_checks q) tt e in
     record {
@@ -36,7 +32,7 @@ right q e =
     }
 
 -- each field of an accepted request's word reads as the request has it
-pub says : (q : Request) → (interrupt_of q).answer ≡ 0 → fields_of (interrupt_word q) ≡ told q
+pub says : (q : Request) → (interrupt_of q).answer ≡ done → fields_of (interrupt_word q) ≡ told q
 unfolding fields_of interrupt_of
 says q e =
     let f = right q e in
@@ -65,7 +61,7 @@ unfolding all_below
 vector_back v h = eqb-true _ _ (all_each (λ n. eqb (vector_at (offset_of n)) n) (most_vector + 1) refl v (omega arith))
 
 -- the request, from the offset and the word that were answered
-pub reads_back : (q : Request) → (interrupt_of q).answer ≡ 0 → request_at (interrupt_of q).offset (fields_of (interrupt_of q).word) ≡ q
+pub reads_back : (q : Request) → (interrupt_of q).answer ≡ done → request_at (interrupt_of q).offset (fields_of (interrupt_of q).word) ≡ q
 unfolding interrupt_of
 reads_back q a = rw (a, says q a) (back (right q a))
   where

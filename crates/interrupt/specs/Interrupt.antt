@@ -1,11 +1,12 @@
 -- Interrupt words (01, "Interrupt words"; Intel's Sections 7.2.2.1 and 7.2.2.2): which requests are wrong, the register's offset, its word,
 -- and the word read back.
 -- Assumes nothing.
-use Rattle.std.specs.Prelude.{ℕ, ◌+◌, ◌-◌, ◌*◌, ◌/◌, ◌%◌, Bool, true, false, not, ◌&&◌, cond, List, [], ◌∷◌, ltb, eqb}
-use Rattle.rules.specs.Rules.{Check, each, answer_of}
+use Rattle.std.specs.Prelude.{ℕ, ◌+◌, ◌-◌, ◌*◌, ◌/◌, ◌%◌, Bool, true, false, not, ◌&&◌, cond, List, [], ◌∷◌, ltb, eqb, is_ok, ◌≡◌, ◌<◌, Result, MatchResult}
+use Rattle.rules.specs.Rules.{Answer as Answered, Check, each, answer_of}
 use Rattle.field.specs.Field.{Part, part, Line, read_at, is_set, word_of, bit}
 use Rattle.interrupt.specs.declared.Enable.{Enable}
 use Rattle.interrupt.specs.declared.Enable.TheVariants.{On, Off, Leave}
+use Rattle.interrupt.specs.declared.UnknownEnable.{UnknownEnable}
 use Rattle.interrupt.specs.declared.Request.{Request}
 use Rattle.interrupt.specs.declared.Answer.{Answer}
 use Rattle.interrupt.specs.declared.Fields.{Fields}
@@ -49,6 +50,16 @@ is_leave On = false
 is_leave Off = false
 is_leave Leave = true
 
+-- the numbers of off, on and leave; the paper has none
+abbrev pub enable_number : Enable → ℕ
+enable_number Off = 0
+enable_number On = 1
+enable_number Leave = 2
+
+-- the result is what this number stands for; a number above 2 stands for nothing, and is handed back
+abbrev pub EnableAt : ℕ → Result Enable UnknownEnable → Type 0
+EnableAt n result = MatchResult result (λ enable. enable_number enable ≡ n) (λ unknown. (unknown.0 ≡ n) × (2 < n))
+
 -- the causes of 9: vector above 64, an index above 3, an interval out of range or odd, an interval not 0 with index 3, a trigger index
 -- not 0 without a trigger, write-back-on-ITR with on or leave
 abbrev pub wrongs : Request → List Bool
@@ -67,7 +78,7 @@ wrongs q =
 abbrev pub interrupt_checks : Request → List Check
 interrupt_checks q = each 9 (wrongs q)
 
-abbrev pub interrupt_answer : Request → ℕ
+abbrev pub interrupt_answer : Request → Answered
 interrupt_answer q = answer_of (interrupt_checks q)
 
 -- vector 0 at 0x5C00, vectors 1 to 64 at 0x3800 + 4 x (vector - 1)
@@ -133,13 +144,13 @@ lines f =
 abbrev pub interrupt_word : Request → ℕ
 interrupt_word q = word_of (lines (told q))
 
--- the answer, and where it is 0 the register's offset and word; zeros come with 9
+-- the answer, and where it is done the register's offset and word; zeros come with 9
 unfoldable pub interrupt_of : Request → Answer
 interrupt_of q =
     record {
       answer = interrupt_answer q;
-      offset = cond (eqb (interrupt_answer q) 0) (offset_of q.vector) 0;
-      word = cond (eqb (interrupt_answer q) 0) (interrupt_word q) 0;
+      offset = cond (is_ok (interrupt_answer q)) (offset_of q.vector) 0;
+      word = cond (is_ok (interrupt_answer q)) (interrupt_word q) 0;
     }
 
 -- a word, read field for field

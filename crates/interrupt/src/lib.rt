@@ -3,18 +3,25 @@
 
 ghost use Rattle.std.specs.Prelude.{◌≡◌, ◌≤◌};
 ghost use Rattle.rules.specs.Rules.{any_of};
-ghost use Rattle.interrupt.specs.Interrupt.{is_on, is_off, is_leave, most_vector, wrongs, offset_of, interrupt_word, interrupt_of, fields_of};
+ghost use Rattle.interrupt.specs.Interrupt.{EnableAt, most_vector, wrongs, offset_of, interrupt_word, interrupt_of, fields_of};
+
+use field::flag;
+use rules::Refusal;
 
 // What becomes of the enable bit.
-#[derive(Clone, Copy)]
+#[derive(Clone, Copy, Debug, PartialEq, Eq)]
 pub enum Enable {
     On,
     Off,
     Leave,
 }
 
+// A number that stands for no change of the enable bit.
+#[derive(Clone, Copy, Debug, PartialEq, Eq)]
+pub struct UnknownEnable(pub u64);
+
 // The ITR index goes with an interval in microseconds; the trigger has an index of its own.
-#[derive(Clone, Copy)]
+#[derive(Clone, Copy, Debug, PartialEq, Eq)]
 pub struct Request {
     pub vector: u64,
     pub enable: Enable,
@@ -26,16 +33,17 @@ pub struct Request {
     pub interval: u64,
 }
 
-// The number that comes back, the register's offset and the word to write there.
-#[derive(Clone, Copy)]
+// The answer, the register's offset and the word to write there.
+// Kept: zeros beside a refusal (01; edit word_beside_9).
+#[derive(Clone, Copy, Debug, PartialEq, Eq)]
 pub struct Answer {
-    pub answer: u8,
+    pub answer: rules::Answer,
     pub offset: u64,
     pub word: u64,
 }
 
 // A word's fields by the register's own names. The interval is in 2 microsecond units.
-#[derive(Clone, Copy)]
+#[derive(Clone, Copy, Debug, PartialEq, Eq)]
 pub struct Fields {
     pub intena: bool,
     pub clearpba: bool,
@@ -88,41 +96,24 @@ const TWO_BITS: u64 = 0x3;
 
 const TWELVE_BITS: u64 = 0xfff;
 
-fn is_on(e: Enable) -> bool
-    ensures { result ≡ is_on e }
-{
-    match e {
-        Enable::On => true,
-        Enable::Off => false,
-        Enable::Leave => false,
-    }
-}
+impl TryFrom<u64> for Enable {
+    type Error = UnknownEnable;
 
-fn is_off(e: Enable) -> bool
-    ensures { result ≡ is_off e }
-{
-    match e {
-        Enable::On => false,
-        Enable::Off => true,
-        Enable::Leave => false,
-    }
-}
+    ghost try_from_gives = { EnableAt };
 
-fn is_leave(e: Enable) -> bool
-    ensures { result ≡ is_leave e }
-{
-    match e {
-        Enable::On => false,
-        Enable::Off => false,
-        Enable::Leave => true,
+    fn try_from(number: u64) -> Result<Self, UnknownEnable> {
+        match number {
+            0 => Ok(Enable::Off),
+            1 => Ok(Enable::On),
+            2 => Ok(Enable::Leave),
+            _ => Err(UnknownEnable(number)),
+        }
     }
 }
 
 fn wrong(q: Request) -> bool
     ensures { result ≡ any_of (wrongs q) }
 {
-    let e = q.enable;
-    let off = is_off(e);
     (VECTOR_MOST < q.vector)
         | (INDEX_MOST < q.index)
         | (INDEX_MOST < q.trigger_index)
@@ -130,7 +121,7 @@ fn wrong(q: Request) -> bool
         | (q.interval % INTERVAL_UNIT != 0)
         | ((q.interval != 0) & (q.index == NO_ITR))
         | ((q.trigger_index != 0) & !q.trigger)
-        | (q.write_back & !off)
+        | (q.write_back & (q.enable != Enable::Off))
 }
 
 fn offset(vector: u64) -> u64
@@ -147,9 +138,8 @@ fn offset(vector: u64) -> u64
 fn word(q: Request) -> u64
     ensures { result ≡ interrupt_word q }
 {
-    let e = q.enable;
-    let on = is_on(e);
-    let leave = is_leave(e);
+    let on = q.enable == Enable::On;
+    let leave = q.enable == Enable::Leave;
     (on as u64)
         | (q.clear as u64) << CLEARPBA
         | (q.trigger as u64) << SWINT_TRIG
@@ -161,19 +151,19 @@ fn word(q: Request) -> u64
         | (leave as u64) << INTENA_MSK
 }
 
-// Answers 0, or 9 where a cause of `wrong` holds; zeros come with it.
+// Refused with 9 where a cause of `wrong` holds; zeros come with it.
 pub fn interrupt(q: Request) -> Answer
     ensures { result ≡ interrupt_of q }
 {
     if wrong(q) {
         return Answer {
-            answer: 9,
+            answer: Err(Refusal::WrongInterrupt),
             offset: 0,
             word: 0,
         };
     }
     Answer {
-        answer: 0,
+        answer: Ok(()),
         offset: offset(q.vector),
         word: word(q),
     }
@@ -184,14 +174,14 @@ pub fn read(word: u64) -> Fields
     ensures { result ≡ fields_of word }
 {
     Fields {
-        intena: (word >> INTENA) & 1 == 1,
-        clearpba: (word >> CLEARPBA) & 1 == 1,
-        swint_trig: (word >> SWINT_TRIG) & 1 == 1,
+        intena: flag(word, INTENA),
+        clearpba: flag(word, CLEARPBA),
+        swint_trig: flag(word, SWINT_TRIG),
         itr_indx: (word >> ITR_INDX) & TWO_BITS,
         interval: (word >> INTERVAL) & TWELVE_BITS,
-        sw_itr_indx_ena: (word >> SW_ITR_INDX_ENA) & 1 == 1,
+        sw_itr_indx_ena: flag(word, SW_ITR_INDX_ENA),
         sw_itr_indx: (word >> SW_ITR_INDX) & TWO_BITS,
-        wb_on_itr: (word >> WB_ON_ITR) & 1 == 1,
-        intena_msk: (word >> INTENA_MSK) & 1 == 1,
+        wb_on_itr: flag(word, WB_ON_ITR),
+        intena_msk: flag(word, INTENA_MSK),
     }
 }

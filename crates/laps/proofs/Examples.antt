@@ -1,9 +1,5 @@
 -- The histories of specs/Examples, computed from the definitions. Assumes nothing.
-use mathlib.Core.Path.{refl}
-use mathlib.Core.Bool.{Bool, true, not, ◌&&◌, false≢true}
-use mathlib.Core.List.{List, [], ◌∷◌}
-use lib.Dec.{T, eqb, T_not}
-use borrow.Author.Tests.{eq-eqb}
+use Rattle.std.proofs.Common.{refl, Bool, true, not, ◌&&◌, List, [], ◌∷◌, T, eqb, T_not, eq-eqb, true≢false, sym}
 use mir.Facts.{and_yes}
 use Rattle.slots.specs.Slots.{run}
 use Rattle.ring.specs.Queue.{tail_of}
@@ -72,7 +68,7 @@ laps =
       each_posted = refl;
       each_written = refl;
       each_back = refl;
-      handed_up_lem = refl;
+      packets_are = refl;
       says = refl;
       none_shown = refl;
       all_shown = refl;
@@ -87,8 +83,8 @@ laps_demand = demand3 start lapped laps.starts laps.allowed
 
 pub short : Short
 unfolding fresh_of lent_ok record_ok post_answer run posted_slots allowed writable and_then scan look sum padded last_words packet_of take_by take_of post_at take_at part_after after reply end replies if_done accepted_at accepted write_at writes filled written joined packets completed packets_in handed_up late_from late number_of fits all_fit
-short = record { allowed = all_allowed start events tt; says = refl; completed_are = refl; handed_up_lem = refl; late_is = refl }
+short = record { allowed = all_allowed start events tt; says = refl; completed_are = refl; packets_are = refl; late_is = refl }
 
 pub refused : Refused
 unfolding fresh_of lent_ok record_ok post_answer run posted_slots allowed writable and_then scan look sum padded last_words packet_of take_by take_of post_at take_at part_after after end slots_from packet_from packets_from
-refused = record { none_posted = λ t. t.0 refl; none_left = λ t. t.0 refl; first_empty = λ t. t.1; sixth_data = λ t. t.1; sixth_open = λ t. t.1; at_tail = λ e. false≢true e }
+refused = record { none_posted = λ t. t.0 refl; none_left = λ t. t.0 refl; first_empty = λ t. t.1; sixth_data = λ t. t.1; sixth_open = λ t. t.1; at_tail = λ e. true≢false (sym e) }

@@ -1,6 +1,7 @@
 -- Histories computed over a ring of 32 slots: one that goes round the ring twice, a short one with everything in it, and writes that
 -- are refused. All start on slices that another queue left: a whole packet's write-back in every slot. Assumes nothing.
 use Rattle.std.specs.Prelude.{ℕ, zero, suc, ◌+◌, ◌*◌, ◌^◌, ◌≡◌, true, cond, List, [], ◌∷◌, ◌++◌, map, ltb, length, take, replicate}
+use Rattle.rules.specs.Rules as Rules
 use Rattle.slots.specs.Slots.{run}
 use Rattle.ring.specs.Queue.{tail_of}
 use Rattle.places.specs.Words.{dd, eop}
@@ -44,8 +45,8 @@ write_to s = write s.words
 
 -- the number that a call gives back
 unfoldable pub number_of : Reply → ℕ
-number_of (posted r) = r.answer
-number_of (taken r) = r.answer
+number_of (posted r) = Rules.number_of r.answer
+number_of (taken r) = Rules.number_of r.answer
 
 -- ---- twice round the ring
 
@@ -131,7 +132,7 @@ pub record Laps : Type 0 where
   pub each_written : along slots_written start lapped ≡ round ++ round
   pub each_back : along slots_back start lapped ≡ round ++ round
   -- each packet comes up once, in order, with its buffers; every other take says 4
-  pub handed_up_lem : handed_up start lapped ≡ map packet_of (single ++ full ++ rest)
+  pub packets_are : handed_up start lapped ≡ map packet_of (single ++ full ++ rest)
   pub says : map number_of (replies start lapped) ≡ one_by_one_says (row single) ++ at_once_says full ++ one_by_one_says (row rest)
   -- so many slots were posted and handed back, two laps of each; none at the start
   pub none_shown : shown start ≡ record { posted = 0; returned = 0 }
@@ -186,7 +187,7 @@ pub record Short : Type 0 where
   pub allowed : AllAllowed start events
   pub says : map number_of (replies start events) ≡ 4 ∷ 0 ∷ 0 ∷ 0 ∷ 4 ∷ 4 ∷ 0 ∷ 0 ∷ 4 ∷ 0 ∷ 4 ∷ []
   pub completed_are : completed start events ≡ map packet_of ((part_in 1 ∷ last_in 2 ∷ []) ∷ (last_in 3 ∷ []) ∷ [])
-  pub handed_up_lem : handed_up start events ≡ completed start events
+  pub packets_are : handed_up start events ≡ completed start events
   pub late_is : late start events ≡ late_events
 
 -- ---- writes that the device's rules refuse

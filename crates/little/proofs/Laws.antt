@@ -1,12 +1,6 @@
 -- Bytes and the number they say, over the width: each way round, and how large the number is.
 -- Assumes nothing.
-use mathlib.Core.Path.{◌≡◌, ap, ◌∙◌, subst}
-use mathlib.Core.List.{List, [], ◌∷◌}
-use Prim.Native.Nat.{ℕ, zero, suc, ◌+◌, ◌*◌, ◌/◌, ◌%◌, ◌^◌, ◌<◌}
-use native.Mathlib.Nat.{mod-add-div, pow-succ'}
-use native.Mathlib.Omega.{arith}
-use lib.Dec.{lit<}
-use lib.ListN.{length, get_or}
+use Rattle.std.proofs.Common.{ℕ, zero, suc, ◌+◌, ◌/◌, ◌^◌, ◌<◌, ◌≡◌, subst, List, [], ◌∷◌, arith, lit<, length, get_or, pow-suc}
 use Rattle.slots.specs.Memory.{read_from}
 use Rattle.slots.proofs.Stores.{length_read}
 use Rattle.little.specs.Little.{value_of, bytes_of}
@@ -16,8 +10,8 @@ use Rattle.little.specs.Steps.{Says}
 pub value_bytes : (n x : ℕ) → x < 256 ^ n → value_of (bytes_of n x) ≡ x
 value_bytes zero x h = omega arith
 value_bytes (suc n) x h =
-    let small : x / 256 < 256 ^ n = omega (arith, pow-succ' 256 n) in
-    ap (λ (v : ℕ). x % 256 + 256 * v) (value_bytes n (x / 256) small) ∙ mod-add-div x 256
+    let small : x / 256 < 256 ^ n = omega (arith, pow-suc 256 n) in
+    rw (value_bytes n (x / 256) small) (omega arith)
 
 -- every number of a list is a byte
 abbrev pub Bytes : List ℕ → Type 0
@@ -26,7 +20,7 @@ Bytes (b ∷ bs) = (b < 256) × Bytes bs
 
 pub value_below : (bs : List ℕ) → Bytes bs → value_of bs < 256 ^ length bs
 value_below [] h = lit< tt
-value_below (b ∷ bs) h = omega (arith, h.0, value_below bs h.1, pow-succ' 256 (length bs))
+value_below (b ∷ bs) h = omega (arith, h.0, value_below bs h.1, pow-suc 256 (length bs))
 
 pub read_bytes : (m : List ℕ) (i n : ℕ) → ((k : ℕ) → get_or m k 0 < 256) → Bytes (read_from m i n)
 read_bytes m i zero h = tt

@@ -1,16 +1,11 @@
--- A turn of each loop.
+-- A turn of the loop that writes, and eight bytes with zeros above the bytes of a number.
 -- Assumes nothing.
-use mathlib.Core.Path.{◌≡◌, sym, ap, ◌∙◌}
-use mathlib.Core.List.{List}
-use Prim.Native.Nat.{ℕ, suc, ◌+◌, ◌-◌, ◌*◌, ◌/◌, ◌%◌, ◌^◌, ◌≤◌, ◌<◌}
-use native.Mathlib.Nat.{lt_of_lt_of_le, pow-le-pow_right}
-use native.Mathlib.Omega.{arith}
-use lib.Dec.{lit<}
-use lib.ListN.{get_or, set}
+use Rattle.std.proofs.Common.{ℕ, zero, suc, ◌+◌, ◌-◌, ◌*◌, ◌/◌, ◌%◌, ◌≤◌, ◌<◌, ◌≡◌, refl, sym, ap, ◌∙◌, List, [], ◌∷◌, ◌++◌, append-nil, arith, length, set, drop, replicate, length-append, w64}
+use Rattle.std.specs.Int.{from_le_bytes}
+use Rattle.std.proofs.lemmas.List.{drop-replicate, length-replicate}
 use Rattle.slots.specs.Memory.{store_from, read_from}
+use Rattle.slots.proofs.Pieces.{read_first}
 use Rattle.little.specs.Little.{value_of, bytes_of}
-use Rattle.little.specs.Steps.{Says}
-use Rattle.little.proofs.Laws.{says}
 
 -- the lowest byte of what is left is stored, and the others are left
 pub put_one : (m : List ℕ) (at n i rest : ℕ) (end : List ℕ) → i < n → store_from m (at + i) (bytes_of (n - i) rest) ≡ end
@@ -21,17 +16,22 @@ put_one m at n i rest end h e =
     ap (λ (p : ℕ). store_from (set m (at + i) (rest % 256)) p (bytes_of (n - (i + 1)) (rest / 256))) place
     ∙ sym (ap (λ (k : ℕ). store_from m (at + i) (bytes_of k rest)) count) ∙ e
 
--- one byte more is read, below those before
-pub get_one : (s : List ℕ) (at n i x : ℕ) → ((j : ℕ) → get_or s j 0 < 256) → 0 < i → i ≤ n → Says s (at + i) (n - i) x
-    → Says s (at + (i - 1)) (n - (i - 1)) (get_or s (at + (i - 1)) 0 + 256 * x)
-get_one s at n i x b h l e =
-    let count : n - (i - 1) ≡ suc (n - i) = omega arith in
-    let place : at + (i - 1) + 1 ≡ at + i = omega arith in
-    says s (at + (i - 1)) (n - (i - 1)) (get_or s (at + (i - 1)) 0 + 256 * x) b
-    (sym (ap (λ (k : ℕ). value_of (read_from s (at + (i - 1)) k)) count
-    ∙ ap (λ (p : ℕ). get_or s (at + (i - 1)) 0 + 256 * value_of (read_from s p (n - i))) place
-    ∙ ap (λ (v : ℕ). get_or s (at + (i - 1)) 0 + 256 * v) (sym e.is)))
+-- zeros above the bytes of a number add nothing
+zeros : (n : ℕ) → value_of (replicate n 0) ≡ 0
+zeros zero = refl
+zeros (suc n) = rw (zeros n)
 
--- before a turn at most seven bytes were read
-pub at_most_seven : (n i x : ℕ) → 0 < i → n ≤ 8 → x < 256 ^ (n - i) → x < 256 ^ 7
-at_most_seven n i x h l b = let seven : n - i ≤ 7 = omega arith in lt_of_lt_of_le b (pow-le-pow_right (lit< tt) seven)
+value_above : (xs : List ℕ) (n : ℕ) → value_of (xs ++ replicate n 0) ≡ value_of xs
+value_above [] n = zeros n
+value_above (x ∷ xs) n = ap (λ (v : ℕ). x + 256 * v) (value_above xs n)
+
+-- eight bytes as the library reads them
+eight_read : (bs : List ℕ) → from_le_bytes w64 bs ≡ value_of (read_from bs 0 8)
+eight_read bs = omega arith
+
+pub eight : (bs : List ℕ) → length bs ≡ 8 → from_le_bytes w64 bs ≡ value_of bs
+eight bs e = eight_read bs ∙ ap value_of (sym (ap (λ (n : ℕ). read_from bs 0 n) e) ∙ ap (λ (xs : List ℕ). read_from xs 0 (length bs)) (sym (append-nil bs)) ∙ read_first bs [])
+
+pub low : (xs : List ℕ) (n : ℕ) → length xs ≡ n → n ≤ 8 → from_le_bytes w64 (xs ++ drop n (replicate {A = ℕ} 8 0)) ≡ value_of xs
+low xs n e h =
+    rw drop-replicate (eight (xs ++ replicate (8 - n) 0) (rw (length-append, e, length-replicate) (omega arith)) ∙ value_above xs (8 - n))

@@ -1,7 +1,8 @@
-// Bytes in memory: copied, and as numbers, the lowest byte first. A write and a read over the width, and the two widths that elements have.
+// Bytes in memory: copied, and as numbers, the lowest byte first. A write and a read over the width, and those of a number of its own width.
 #![tactic(auto)]
 
-ghost use Rattle.std.specs.Prelude.{◌≡◌, ◌+◌, ◌≤◌, length};
+ghost use Rattle.std.specs.Prelude.{ℕ, ◌≡◌, ◌+◌, ◌^◌, ◌<◌, ◌≤◌, length};
+ghost use Rattle.std.proofs.Common.{rules};
 ghost use Rattle.slots.specs.Memory.{store_from, read_from};
 ghost use Rattle.little.specs.Little.{value_of, bytes_of};
 ghost use Rattle.little.specs.Steps.{Says};
@@ -14,11 +15,8 @@ pub fn copy(out: &mut [u8], at: usize, bytes: &[u8])
     requires { at + length bytes.now ≤ length out.old }
     ensures { out.new ≡ store_from out.old at bytes.now }
 {
-    let mut i = 0;
-    while i < bytes.len() {
-        out[at + i] = bytes[i];
-        i += 1;
-    }
+    let end = at + bytes.len();
+    out[at..end].copy_from_slice(bytes);
 }
 
 // The lowest n bytes of x, from place at on.
@@ -27,11 +25,10 @@ pub fn put(out: &mut [u8], at: usize, n: usize, x: u64)
     ensures { out.new ≡ store_from out.old at (bytes_of n x) }
 {
     let mut rest = x;
-    let mut i = 0;
-    while i < n {
+    // Kept: put takes any n, and to_le_bytes has eight bytes.
+    for i in 0..n {
         out[at + i] = (rest % BYTE) as u8;
-        rest = rest / BYTE;
-        i += 1;
+        rest /= BYTE;
     }
 }
 
@@ -40,39 +37,75 @@ pub fn get(s: &[u8], at: usize, n: usize) -> u64
     requires { (at + n ≤ length s.now) × (n ≤ 8) }
     ensures { Says s.now at n result }
 {
-    let mut x = 0;
-    let mut i = n;
-    while 0 < i {
-        i -= 1;
-        x = s[at + i] as u64 + BYTE * x;
+    let mut bytes = [0; 8];
+    bytes[..n].copy_from_slice(&s[at..at + n]);
+    u64::from_le_bytes(bytes)
+}
+
+// A number of WIDTH bytes.
+pub trait Number: Copy {
+    ghost WIDTH: { ℕ };
+
+    ghost value: { Self → ℕ };
+
+    const WIDTH: usize;
+
+    fn wide(self) -> u64
+        ensures { result ≡ value self };
+
+    fn narrow(x: u64) -> Self
+        requires { x < 256 ^ WIDTH }
+        ensures { value result ≡ x };
+
+    ghost few: { WIDTH ≤ 8 };
+}
+
+impl Number for u16 {
+    ghost WIDTH = { 2 };
+
+    ghost value = { λ x. x };
+
+    ghost few = { Prim.search rules };
+
+    const WIDTH: usize = 2;
+
+    fn wide(self) -> u64 {
+        self as u64
     }
-    x
+
+    fn narrow(x: u64) -> u16 {
+        x as u16
+    }
 }
 
-pub fn put_u16(out: &mut [u8], at: usize, x: u16)
-    requires { at + 2 ≤ length out.old }
-    ensures { out.new ≡ store_from out.old at (bytes_of 2 x) }
-{
-    put(out, at, 2, x as u64);
+impl Number for u32 {
+    ghost WIDTH = { 4 };
+
+    ghost value = { λ x. x };
+
+    ghost few = { Prim.search rules };
+
+    const WIDTH: usize = 4;
+
+    fn wide(self) -> u64 {
+        self as u64
+    }
+
+    fn narrow(x: u64) -> u32 {
+        x as u32
+    }
 }
 
-pub fn put_u32(out: &mut [u8], at: usize, x: u32)
-    requires { at + 4 ≤ length out.old }
-    ensures { out.new ≡ store_from out.old at (bytes_of 4 x) }
+pub fn put_number<T: Number>(out: &mut [u8], at: usize, x: T)
+    requires { at + T.WIDTH ≤ length out.old }
+    ensures { out.new ≡ store_from out.old at (bytes_of T.WIDTH (T.value x)) }
 {
-    put(out, at, 4, x as u64);
+    put(out, at, T::WIDTH, x.wide());
 }
 
-pub fn get_u16(s: &[u8], at: usize) -> u16
-    requires { at + 2 ≤ length s.now }
-    ensures { result ≡ value_of (read_from s.now at 2) }
+pub fn get_number<T: Number>(s: &[u8], at: usize) -> T
+    requires { at + T.WIDTH ≤ length s.now }
+    ensures { T.value result ≡ value_of (read_from s.now at T.WIDTH) }
 {
-    get(s, at, 2) as u16
-}
-
-pub fn get_u32(s: &[u8], at: usize) -> u32
-    requires { at + 4 ≤ length s.now }
-    ensures { result ≡ value_of (read_from s.now at 4) }
-{
-    get(s, at, 4) as u32
+    T::narrow(get(s, at, T::WIDTH))
 }

@@ -1,6 +1,6 @@
 -- A driver's flags read back from their word.
 -- Assumes nothing.
-use mathlib.Core.Path.{◌≡◌}
+use Rattle.std.proofs.Common.{◌≡◌}
 use Rattle.field.proofs.Laws.{reads, flag_back}
 use Rattle.mail_flags.specs.declared.Flags.{Flags}
 use Rattle.mail_flags.specs.Flags.{flag_lines, flags_of, flags_in}

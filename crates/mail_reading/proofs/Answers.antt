@@ -1,14 +1,7 @@
 -- What a reading goes by: the answer made of what was seen is that of the element at head.
 -- Assumes nothing.
-use Prim.Native.Nat.{ℕ, ◌+◌, ◌*◌, ◌≤◌}
-use mathlib.Core.Path.{◌≡◌, ap, ◌∙◌}
-use mathlib.Core.Bool.{Bool, not, ◌&&◌, cond}
-use mathlib.Core.List.{List, [], ◌∷◌, ◌++◌}
-use native.Mathlib.Omega.{arith}
-use borrow.Author.Tests.{ltb-false}
-use lib.Dec.{ltb, eqb}
-use lib.ListN.{length}
-use Rattle.rules.specs.Rules.{Check, answer_of}
+use Rattle.std.proofs.Common.{ℕ, ◌+◌, ◌*◌, ◌≤◌, ◌≡◌, ap, ◌∙◌, Bool, not, ◌&&◌, cond, List, [], ◌∷◌, ◌++◌, arith, ltb-false, ltb, eqb, length, is_ok}
+use Rattle.rules.specs.Rules.{Check, answer_of, done, Answer, answer_at}
 use Rattle.rules.proofs.Tests.{none}
 use Rattle.rules.proofs.Checks.{passed, asked_next, first_pass}
 use Rattle.element.specs.declared.Element.{Element}
@@ -23,22 +16,22 @@ module _ (wrong : Element → ℕ → Bool) (r : Ring) (ring list : List ℕ) (l
   abbrev read_checks : List Check
   read_checks = look_checks r ring list ++ element_checks (wrong (head_element r ring list) (head_posted r ring list)) (head_element r ring list) lent
 
-  pub read_answer : {s : Seen} {w : Bool} {a : ℕ} → s ≡ look_of r ring list → w ≡ wrong s.element s.posted → a ≡ cond (eqb s.answer 0) (answer_of (element_checks w s.element lent)) s.answer → a ≡ answer_of read_checks
+  pub read_answer : {s : Seen} {w : Bool} {a : Answer} → s ≡ look_of r ring list → w ≡ wrong s.element s.posted → a ≡ cond (is_ok s.answer) (answer_of (element_checks w s.element lent)) s.answer → a ≡ answer_of read_checks
   read_answer {s} {w} {a} e f g =
-      g ∙ ap (λ (b : Bool). cond (eqb s.answer 0) (answer_of (element_checks b s.element lent)) s.answer) f
-      ∙ ap (λ (t : Seen). cond (eqb t.answer 0) (answer_of (element_checks (wrong t.element t.posted) t.element lent)) t.answer) e
+      g ∙ ap (λ (b : Bool). cond (is_ok s.answer) (answer_of (element_checks b s.element lent)) s.answer) f
+      ∙ ap (λ (t : Seen). cond (is_ok t.answer) (answer_of (element_checks (wrong t.element t.posted) t.element lent)) t.answer) e
       ∙ look_next r ring list (λ x p. element_checks (wrong x p) x lent)
 
-  pub read_looked : answer_of read_checks ≡ 0 → answer_of (look_checks r ring list) ≡ 0
+  pub read_looked : answer_of read_checks ≡ done → answer_of (look_checks r ring list) ≡ done
   read_looked z = first_pass (look_checks r ring list) (element_checks (wrong (head_element r ring list) (head_posted r ring list)) (head_element r ring list) lent) tt z
 
   -- what a look at the element leaves for later, its reading does
-  pub read_not_yet : answer_of (look_checks r ring list) ≡ 4 → answer_of read_checks ≡ 4
+  pub read_not_yet : answer_of (look_checks r ring list) ≡ answer_at 4 → answer_of read_checks ≡ answer_at 4
   read_not_yet e =
       asked_next (look_checks r ring list) (element_checks (wrong (head_element r ring list) (head_posted r ring list)) (head_element r ring list) lent) tt ∙ rw e
 
   -- an element that is read lies in the ring, and its length in the buffer
-  module _ (z : answer_of read_checks ≡ 0) where
+  module _ (z : answer_of read_checks ≡ done) where
     pub read_inside : 32 * r.head + 16 ≤ length ring
     read_inside = let l = seen_lent r ring list (read_looked z) in omega (arith, l.ring_long, l.is.head_below)
 

@@ -1,13 +1,6 @@
 -- An element of a driver that the device is done with: DD is set in it, ERR is not, and every flag that has to come back is as it was posted.
 -- Assumes nothing.
-use Prim.Native.Nat.{◌+◌, ◌≤◌}
-use mathlib.Core.Path.{◌≡◌, refl, ap, ◌∙◌}
-use mathlib.Core.Logic.{◌≢◌}
-use mathlib.Core.Bool.{true, false, not, ◌||◌}
-use native.Mathlib.Nat.{add_comm, div-one}
-use native.Mathlib.Omega.{arith}
-use borrow.Author.Tests.{eq-eqb, ne_eqb}
-use lib.Dec.{lit<, eqb}
+use Rattle.std.proofs.Common.{◌+◌, ◌≤◌, ◌≡◌, refl, ap, ◌∙◌, ◌≢◌, true, false, not, ◌||◌, add_comm, div-one, arith, eq-eqb, ne_eqb, lit<, eqb}
 use Rattle.field.specs.Field.{Line, field_of, read_at, is_set}
 use Rattle.field.proofs.Laws.{put_above}
 use Rattle.element.specs.declared.Element.{Element}

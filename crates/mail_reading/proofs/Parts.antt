@@ -1,14 +1,6 @@
 -- Where a message lies: the bytes of a part, and the very place.
 -- Assumes nothing.
-use Prim.Native.Nat.{ℕ, ◌+◌, ◌*◌, ◌≤◌}
-use mathlib.Core.Path.{◌≡◌, ◌∙◌}
-use mathlib.Core.Bool.{true, false}
-use mathlib.Core.List.{List, []}
-use native.Mathlib.Nat.{zero-add}
-use native.Mathlib.Omega.{arith}
-use borrow.Author.Tests.{le-leb}
-use lib.ListN.{length}
-use denote.Ref.{Bor}
+use Rattle.std.proofs.Common.{ℕ, ◌+◌, ◌*◌, ◌≤◌, ◌≡◌, ◌∙◌, true, false, List, [], zero-add, arith, le-leb, length, Bor}
 use Rattle.slots.proofs.Pieces.{read_part}
 use Rattle.element.specs.declared.Element.{Element}
 use Rattle.element.specs.Element.{cookie_at}

@@ -1,7 +1,7 @@
 -- What is read of an element that the device is done with (02, "The mailbox"; 000, Tables 4-6, 4-8 and 4-12): when it is wrong, and its numbers.
 -- Assumes nothing.
 use Rattle.std.specs.Prelude.{ℕ, ◌+◌, ◌*◌, ◌/◌, ◌%◌, Bool, true, false, not, ◌||◌, cond, List, [], ◌∷◌, eqb}
-use Rattle.rules.specs.Rules.{any_of, Check, ◌when◌}
+use Rattle.rules.specs.Rules.{any_of, Check, ◌when◌, done}
 use Rattle.field.specs.Field.{is_set}
 use Rattle.element.specs.declared.Element.{Element}
 use Rattle.mail_flags.specs.Flags.{err_flag, buf_flag, not_echoed}

@@ -1,7 +1,7 @@
 // What is read of an element that the device is done with: whether it is as it must be, its numbers, and the message, which stays where it lies.
 #![tactic(auto)]
 
-ghost use Rattle.std.specs.Prelude.{◌≡◌, cond, ◌≤◌, eqb};
+ghost use Rattle.std.specs.Prelude.{◌≡◌, cond, ◌≤◌, is_ok};
 ghost use Rattle.rules.specs.Rules.{answer_of};
 ghost use Rattle.mail_reading.specs.Reading.{completion_wrong, message_wrong, element_checks, reading_of, no_reading};
 ghost use Rattle.mail_reading.specs.Part.{Within, PartIs};
@@ -10,6 +10,7 @@ ghost use Rattle.mail_ring.specs.Ring.{most_size};
 use element::{COOKIE, ELEMENT, Element};
 use mail_request::{QUEUE_SHUTDOWN, SEND_TO_PF};
 use mail_ring::OPCODE;
+use rules::{Answer, Refusal};
 
 // The opcode of a received message.
 const MESSAGE_FROM_PF: u16 = 0x0802;
@@ -18,7 +19,8 @@ const MESSAGE_FROM_PF: u16 = 0x0802;
 const COOKIE_PLACE: usize = 8;
 
 // The numbers of an element, and where the message lies: in the buffer, or in the ring.
-#[derive(Clone, Copy)]
+// Kept: `buf`, `from` and `length` and no slice: an enum that holds one is refused, a struct needs a walk by hand at every caller (docs/DECISIONS.md).
+#[derive(Clone, Copy, Debug, Default, PartialEq, Eq)]
 pub struct Reading {
     pub error: bool,
     pub value: u16,
@@ -49,75 +51,56 @@ pub fn message_wrong(e: Element, posted: u32) -> bool
 }
 
 // The answer of a reading: what a look at the element gave, then 5 and 11.
-pub fn answer(looked: u8, wrong: bool, e: Element, lent: usize) -> u8
-    ensures { result ≡ cond (eqb looked 0) (answer_of (element_checks wrong e lent)) looked }
+pub fn answer(looked: Answer, wrong: bool, e: Element, lent: usize) -> Answer
+    ensures { result ≡ cond (is_ok looked) (answer_of (element_checks wrong e lent)) looked }
 {
-    if looked != 0 {
-        return looked;
-    }
+    looked?;
     if wrong {
-        return 5;
+        return Err(Refusal::Contradiction);
     }
     let buf = mail_flags::buf(e.flags);
     if mail_request::length_wrong(buf, e.length as usize, lent) {
-        11
-    } else {
-        0
+        return Err(Refusal::WrongLength);
     }
+    Ok(())
 }
 
 pub fn no_reading() -> Reading
     ensures { result ≡ no_reading }
 {
-    Reading {
-        error: false,
-        value: 0,
-        cookie: [0; COOKIE],
-        buf: false,
-        from: 0,
-        length: 0,
-    }
+    Reading::default()
 }
 
 // The numbers of the element at head.
+#[tactic(auto, unfolding(crate::specs::Reading::reading_of))]
 pub fn reading_of(head: usize, e: Element) -> Reading
     requires { head ≤ most_size }
     ensures { result ≡ reading_of head e }
 {
-    let error = mail_flags::err(e.flags);
-    let cookie = e.cookie;
-    if mail_flags::buf(e.flags) {
-        Reading {
-            error,
-            value: e.value,
-            cookie,
-            buf: true,
-            from: 0,
-            length: e.length as usize,
-        }
+    let buf = mail_flags::buf(e.flags);
+    let (from, length) = if buf {
+        (0, e.length as usize)
     } else {
-        Reading {
-            error,
-            value: e.value,
-            cookie,
-            buf: false,
-            from: ELEMENT * head + COOKIE_PLACE,
-            length: COOKIE,
-        }
+        (ELEMENT * head + COOKIE_PLACE, COOKIE)
+    };
+    let cookie = e.cookie;
+    Reading {
+        error: mail_flags::err(e.flags),
+        value: e.value,
+        cookie,
+        buf,
+        from,
+        length,
     }
 }
 
 // So many bytes from a place on, or none where there are not so many.
+// Kept: not `get`, whose contract says a part's bytes and not the place that it has in the lent slice, which `Within` says.
 fn within<'a>(s: &'a [u8], from: usize, length: usize) -> &'a [u8]
     ensures { Within s.entry from length result }
 {
-    if from <= s.len() {
-        if length <= s.len() - from {
-            let end = from + length;
-            &s[from..end]
-        } else {
-            &s[..0]
-        }
+    if from <= s.len() && length <= s.len() - from {
+        &s[from..from + length]
     } else {
         &s[..0]
     }
@@ -127,9 +110,6 @@ fn within<'a>(s: &'a [u8], from: usize, length: usize) -> &'a [u8]
 pub fn part<'a>(ring: &'a [u8], buffer: &'a [u8], r: Reading) -> &'a [u8]
     ensures { PartIs ring.entry buffer.entry r result }
 {
-    if r.buf {
-        within(buffer, r.from, r.length)
-    } else {
-        within(ring, r.from, r.length)
-    }
+    let holder = if r.buf { buffer } else { ring };
+    within(holder, r.from, r.length)
 }

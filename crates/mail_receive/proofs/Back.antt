@@ -1,5 +1,8 @@
 -- What was posted reads back as its request, and every other element stays.
 -- Assumes nothing.
+use Rattle.rules.specs.Rules.{done}
+use Rattle.rules.specs.declared.Refusal.TheVariants.{NotYet}
+use Rattle.std.specs.Prelude.{Err}
 use Prim.Native.Nat.{ℕ, ◌^◌, ◌<◌}
 use mathlib.Core.Path.{◌≡◌, refl, ap, ◌∙◌}
 use mathlib.Core.Logic.{◌≢◌}
@@ -23,7 +26,7 @@ use Rattle.mail_receive.specs.declared.ReceiveRing.{ReceiveRing}
 use Rattle.mail_receive.specs.Receiving.{answer_to_post, message_answer}
 use Rattle.mail_receive.proofs.Laws.{post_room, post_short}
 
-module _ (q : ReceiveRing) (ring list : List ℕ) (lent : ℕ) (room : Room) (z : answer_to_post q ring list lent room ≡ 0) (small : room.address < 2 ^ 64) where
+module _ (q : ReceiveRing) (ring list : List ℕ) (lent : ℕ) (room : Room) (z : answer_to_post q ring list lent room ≡ done) (small : room.address < 2 ^ 64) where
   room_holds : Holds (room_element room)
   room_holds = holds (room_flags room) 0 room.length no_cookie 0 room.address (lit< tt) (post_short q (length ring) (length list) lent room z) refl (omega arith) small
 
@@ -45,7 +48,7 @@ module _ (q : ReceiveRing) (ring list : List ℕ) (lent : ℕ) (room : Room) (z 
   posted_list = list_after (answer_to_post q ring list lent room) q.shared ring list (room_element room)
 
   -- once it is the oldest it is not read until the device has written it, whatever stood in the element before
-  pub post_not_yet : (r : ReceiveRing) → ring_ok r.shared ≡ true → r.shared.size ≡ q.shared.size → r.shared.head ≡ tail_of q.shared → r.shared.posted ≢ 0 → (lent' : ℕ) → message_answer r posted_ring posted_list lent' ≡ 4
+  pub post_not_yet : (r : ReceiveRing) → ring_ok r.shared ≡ true → r.shared.size ≡ q.shared.size → r.shared.head ≡ tail_of q.shared → r.shared.posted ≢ 0 → (lent' : ℕ) → message_answer r posted_ring posted_list lent' ≡ Err NotYet
   unfolding message_answer
   post_not_yet r ok size_is head-is some lent' =
       read_not_yet message_wrong r.shared posted_ring posted_list lent'

@@ -1,12 +1,14 @@
 -- Exact causes: each number is answered exactly if its cause holds and no earlier one does (`Answers` of rules, both ways).
 -- Assumes nothing.
+use Rattle.rules.specs.declared.Refusal.TheVariants.{WrongRecord}
+use Rattle.std.specs.Prelude.{Err}
 use Prim.Native.Nat.{ℕ}
 use mathlib.Core.Path.{◌≡◌, refl}
 use mathlib.Core.Logic.{◌≢◌}
 use mathlib.Core.Bool.{not}
 use mathlib.Core.List.{List, [], ◌∷◌}
 use lib.ListN.{length}
-use Rattle.rules.specs.Rules.{◌when◌, answer_of, Answers}
+use Rattle.rules.specs.Rules.{◌when◌, answer_of, Answers, done, answered, Answer}
 use Rattle.rules.proofs.Checks.{has_cause, is_answered, one_check}
 use Rattle.mail_ring.specs.Ring.{ring_ok, empty_ring}
 use Rattle.mail_request.specs.declared.Room.{Room}
@@ -16,12 +18,12 @@ use Rattle.mail_receive.specs.Receiving.{empty_receive, fresh_of, post_checks, p
 
 pub fresh_answer : (size : ℕ) → (fresh_of size).answer ≡ answer_of (1 when not (ring_ok (empty_ring size)) ∷ [])
 unfolding fresh_of
-fresh_answer size = one_check (λ (f : Posted). f.answer) (ring_ok (empty_ring size)) (record { answer = 0; queue = empty_receive size }) (record { answer = 1; queue = empty_receive 0 }) refl refl
+fresh_answer size = one_check (λ (f : Posted). f.answer) (ring_ok (empty_ring size)) (record { answer = done; queue = empty_receive size }) (record { answer = Err WrongRecord; queue = empty_receive 0 }) refl refl
 
 -- ---- receive posts: 1, 11, 2, 3
 
-module _ (q : ReceiveRing) (ring list : List ℕ) (lent : ℕ) (room : Room) (n : ℕ) where
-  pub post_cause : answer_to_post q ring list lent room ≡ n → n ≢ 0 → (i : ℕ) × Answers (post_checks q (length ring) (length list) lent room) n i
+module _ (q : ReceiveRing) (ring list : List ℕ) (lent : ℕ) (room : Room) (n : Answer) where
+  pub post_cause : answer_to_post q ring list lent room ≡ n → n ≢ done → (i : ℕ) × Answers (post_checks q (length ring) (length list) lent room) n i
   unfolding post_answer
   post_cause e ne = has_cause _ n e ne
 
@@ -31,8 +33,8 @@ module _ (q : ReceiveRing) (ring list : List ℕ) (lent : ℕ) (room : Room) (n 
 
 -- ---- messages: 1, 4, 5, 11
 
-module _ (q : ReceiveRing) (ring list : List ℕ) (lent n : ℕ) where
-  pub message_cause : message_answer q ring list lent ≡ n → n ≢ 0 → (i : ℕ) × Answers (message_checks q ring list lent) n i
+module _ (q : ReceiveRing) (ring list : List ℕ) (lent : ℕ) (n : Answer) where
+  pub message_cause : message_answer q ring list lent ≡ n → n ≢ done → (i : ℕ) × Answers (message_checks q ring list lent) n i
   unfolding message_answer
   message_cause e ne = has_cause (message_checks q ring list lent) n e ne
 

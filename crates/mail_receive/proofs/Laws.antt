@@ -1,5 +1,7 @@
 -- What an accepted post was lent and had room for; and what a message gives, refused or not.
 -- Assumes nothing.
+use Rattle.rules.proofs.Answers.{done-is_ok, refused-is_ok}
+use Rattle.rules.specs.Rules.{done, Answer}
 use Prim.Native.Nat.{ℕ, ◌≤◌}
 use mathlib.Core.Path.{◌≡◌, sym}
 use mathlib.Core.Logic.{◌≢◌}
@@ -24,7 +26,7 @@ use Rattle.mail_receive.specs.Receiving.{post_checks, post_answer, received, mes
 
 -- ---- posting
 
-module _ (q : ReceiveRing) (ring_length list_length lent : ℕ) (room : Asked) (z : post_answer q ring_length list_length lent room ≡ 0) where
+module _ (q : ReceiveRing) (ring_length list_length lent : ℕ) (room : Asked) (z : post_answer q ring_length list_length lent room ≡ done) where
   pub post_room : Room q.shared ring_length list_length
   unfolding post_answer
   post_room = let n = passed (post_checks q ring_length list_length lent room) tt z in has_room q.shared ring_length list_length (not-false _ (n 0)) (n 3)
@@ -38,14 +40,14 @@ module _ (q : ReceiveRing) (ring_length list_length lent : ℕ) (room : Asked) (
 -- ---- messages
 
 module _ (q : ReceiveRing) (ring list : List ℕ) (lent : ℕ) where
-  pub message_refused : {a : ℕ} → a ≡ message_answer q ring list lent → a ≢ 0 → record { answer = a; queue = q; reading = no_reading } ≡ message_of q ring list lent
+  pub message_refused : {a : Answer} → a ≡ message_answer q ring list lent → a ≢ done → record { answer = a; queue = q; reading = no_reading } ≡ message_of q ring list lent
   unfolding message_of
-  message_refused {a} e ne = rw (sym e, ne_eqb a 0 ne)
+  message_refused {a} e ne = rw (sym e, refused-is_ok a ne)
 
-  module _ (z : message_answer q ring list lent ≡ 0) where
-    pub message_given : message_of q ring list lent ≡ record { answer = 0; queue = record { shared = advanced q.shared }; reading = reading_of q.shared.head (received q ring list lent) }
+  module _ (z : message_answer q ring list lent ≡ done) where
+    pub message_given : message_of q ring list lent ≡ record { answer = done; queue = record { shared = advanced q.shared }; reading = reading_of q.shared.head (received q ring list lent) }
     unfolding message_of
-    message_given = rw (eq-eqb _ 0 z)
+    message_given = rw (done-is_ok _ z)
 
     pub message_seen : (look_of q.shared ring list).element ≡ received q ring list lent
     unfolding message_answer

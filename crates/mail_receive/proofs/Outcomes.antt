@@ -1,11 +1,13 @@
 -- The calls' statements fix their outcomes: any two that meet one are equal.
 -- Assumes nothing.
+use Rattle.rules.specs.Rules.{Answer}
 use Prim.Native.Nat.{ℕ}
 use mathlib.Core.Path.{◌≡◌}
 use mathlib.Core.List.{List}
 use Rattle.rules.specs.Outcomes.{Fixes}
 use Rattle.rules.proofs.Outcomes.{alike, equation}
-use Rattle.ring.specs.declared.Asked.{Asked}
+use Rattle.std.specs.Prelude.{Result}
+use Rattle.rules.specs.declared.Refusal.{Refusal}
 use Rattle.mail_ring.specs.Posting.{ring_after, list_after}
 use Rattle.mail_request.specs.declared.Room.{Room}
 use Rattle.mail_request.specs.Request.{room_element}
@@ -17,17 +19,17 @@ use Rattle.mail_receive.specs.Receiving.{fresh_of, tail_value_of, tail_register_
 pub fresh_alike : (size : ℕ) (a b : Posted) → a ≡ fresh_of size → b ≡ fresh_of size → a ≡ b
 fresh_alike size = alike (equation (fresh_of size))
 
-pub tail_value_alike : (q : ReceiveRing) (a b : Asked) → a ≡ tail_value_of q → b ≡ tail_value_of q → a ≡ b
+pub tail_value_alike : (q : ReceiveRing) (a b : Result ℕ Refusal) → a ≡ tail_value_of q → b ≡ tail_value_of q → a ≡ b
 tail_value_alike q = alike (equation (tail_value_of q))
 
-pub tail_register_alike : (q : ReceiveRing) (a b : Asked) → a ≡ tail_register_of q → b ≡ tail_register_of q → a ≡ b
+pub tail_register_alike : (q : ReceiveRing) (a b : Result ℕ Refusal) → a ≡ tail_register_of q → b ≡ tail_register_of q → a ≡ b
 tail_register_alike q = alike (equation (tail_register_of q))
 
 pub message_alike : (q : ReceiveRing) (ring list : List ℕ) (lent : ℕ) (a b : Received) → a ≡ message_of q ring list lent → b ≡ message_of q ring list lent → a ≡ b
 message_alike q ring list lent = alike (equation (message_of q ring list lent))
 
 module _ (q : ReceiveRing) (ring list : List ℕ) (lent : ℕ) (room : Room) where
-  abbrev answer : ℕ
+  abbrev answer : Answer
   answer = answer_to_post q ring list lent room
 
   post_fixes : Fixes (Meets q ring list lent room) (record { result = post_of q ring list lent room; ring = ring_after answer q.shared ring list (room_element room); list = list_after answer q.shared ring list (room_element room) })

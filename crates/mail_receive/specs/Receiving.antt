@@ -1,9 +1,10 @@
 -- The receive ring (02, "The mailbox"): its record, and each call's checks in their order, its result, and the lent memory after it.
 -- Assumes nothing.
-use Rattle.std.specs.Prelude.{ℕ, ◌≡◌, true, not, ◌||◌, cond, List, [], ◌∷◌, ◌++◌, eqb, length}
-use Rattle.rules.specs.Rules.{Check, ◌when◌, answer_of}
+use Rattle.rules.specs.declared.Refusal.{Refusal}
+use Rattle.rules.specs.declared.Refusal.TheVariants.{WrongRecord}
+use Rattle.std.specs.Prelude.{ℕ, ◌≡◌, true, not, ◌||◌, cond, List, [], ◌∷◌, ◌++◌, eqb, length, Result, is_ok, Err}
+use Rattle.rules.specs.Rules.{Check, ◌when◌, answer_of, done, Answer}
 use Rattle.rules.specs.Address.{address_wrong}
-use Rattle.ring.specs.declared.Asked.{Asked}
 use Rattle.ring.specs.Queue.{asked_of}
 use Rattle.element.specs.declared.Element.{Element}
 use Rattle.mail_ring.specs.Ring.{ring_ok, lent_ok, empty_ring, tail_of, is_full, advanced}
@@ -23,13 +24,13 @@ empty_receive size = record { shared = empty_ring size }
 
 -- a fresh ring is empty; outside the size's line, 1 and an all-zero record
 unfoldable pub fresh_of : ℕ → Posted
-fresh_of size = cond (ring_ok (empty_ring size)) (record { answer = 0; queue = empty_receive size }) (record { answer = 1; queue = empty_receive 0 })
+fresh_of size = cond (ring_ok (empty_ring size)) (record { answer = done; queue = empty_receive size }) (record { answer = Err WrongRecord; queue = empty_receive 0 })
 
 -- the tail value, and VF_ARQT
-abbrev pub tail_value_of : ReceiveRing → Asked
+abbrev pub tail_value_of : ReceiveRing → Result ℕ Refusal
 tail_value_of q = asked_of (ring_ok q.shared) (tail_of q.shared)
 
-abbrev pub tail_register_of : ReceiveRing → Asked
+abbrev pub tail_register_of : ReceiveRing → Result ℕ Refusal
 tail_register_of q = asked_of (ring_ok q.shared) 0x7000
 
 -- ---- receive posts
@@ -43,11 +44,11 @@ post_checks q ring_length list_length lent room =
     ∷ 3 when is_full q.shared
     ∷ []
 
-unfoldable pub post_answer : ReceiveRing → ℕ → ℕ → ℕ → Room → ℕ
+unfoldable pub post_answer : ReceiveRing → ℕ → ℕ → ℕ → Room → Answer
 post_answer q ring_length list_length lent room = answer_of (post_checks q ring_length list_length lent room)
 
 module _ (q : ReceiveRing) (ring list : List ℕ) (lent : ℕ) (room : Room) where
-  abbrev pub answer_to_post : ℕ
+  abbrev pub answer_to_post : Answer
   answer_to_post = post_answer q (length ring) (length list) lent room
 
   abbrev pub post_of : Posted
@@ -69,14 +70,14 @@ module _ (q : ReceiveRing) (ring list : List ℕ) (lent : ℕ) where
   abbrev pub message_checks : List Check
   message_checks = look_checks q.shared ring list ++ element_checks (message_wrong received (head_posted q.shared ring list)) received lent
 
-  unfoldable pub message_answer : ℕ
+  unfoldable pub message_answer : Answer
   message_answer = answer_of message_checks
 
-  -- where it is 0 what was read, and the element is handed back; zeros beside a refusal
+  -- where it is done what was read, and the element is handed back; zeros beside a refusal
   unfoldable pub message_of : Received
   message_of =
-      cond (eqb message_answer 0)
-      (record { answer = 0; queue = record { shared = advanced q.shared }; reading = reading_of q.shared.head received })
+      cond (is_ok message_answer)
+      (record { answer = done; queue = record { shared = advanced q.shared }; reading = reading_of q.shared.head received })
       (record { answer = message_answer; queue = q; reading = no_reading })
 
 -- ---- outcomes: what a post gives and leaves, and that it meets the statement

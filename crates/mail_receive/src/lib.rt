@@ -9,43 +9,46 @@ ghost use Rattle.mail_receive.specs.Receiving.{fresh_of, tail_value_of, tail_reg
 use mail_reading::Reading;
 use mail_request::Room;
 use mail_ring::Ring;
-use ring::Asked;
+use rules::{Answer, Refusal};
 
 // VF_ARQT.
 const TAIL_REGISTER: u16 = 0x7000;
 
-#[derive(Clone, Copy)]
+#[derive(Clone, Copy, Debug, PartialEq, Eq)]
 pub struct ReceiveRing {
     pub shared: Ring,
 }
 
-#[derive(Clone, Copy)]
+// Kept: structs by the names that docs/MANUAL.md gives them; fresh gives a post's.
+// Kept: zeros beside a refusal, since `fresh_of` and `message_of` say them.
+#[derive(Clone, Copy, Debug, PartialEq, Eq)]
 pub struct Posted {
-    pub answer: u8,
+    pub answer: Answer,
     pub queue: ReceiveRing,
 }
 
-#[derive(Clone, Copy)]
+#[derive(Clone, Copy, Debug, PartialEq, Eq)]
 pub struct Received {
-    pub answer: u8,
+    pub answer: Answer,
     pub queue: ReceiveRing,
     pub reading: Reading,
 }
 
 impl ReceiveRing {
-    // Answers 0 with an empty ring, or 1 with an all-zero record where the size is outside its line.
+    // An empty ring, or 1 with an all-zero record where the size is outside its line.
+    // Kept: mail_send has this, the tail calls and the readings too; what they share stands in mail_ring and mail_reading, and a trait would have them again.
     pub fn fresh(size: usize) -> Posted
         ensures { result ≡ fresh_of size }
     {
         let shared = Ring::empty(size);
         if shared.ok() {
             Posted {
-                answer: 0,
+                answer: Ok(()),
                 queue: ReceiveRing { shared },
             }
         } else {
             Posted {
-                answer: 1,
+                answer: Err(Refusal::WrongRecord),
                 queue: ReceiveRing {
                     shared: Ring::empty(0),
                 },
@@ -53,72 +56,74 @@ impl ReceiveRing {
         }
     }
 
-    // Answers 0 with the tail value, or 1 with 0 where the record breaks a line.
-    pub fn tail_value(self) -> Asked
+    // The tail value, or 1 where the record breaks a line.
+    pub fn tail_value(self) -> Result<usize, Refusal>
         ensures { result ≡ tail_value_of self }
     {
         self.shared.tail_value()
     }
 
-    // Answers 0 with the register's offset, or 1 with 0 where the record breaks a line.
-    pub fn tail_register(self) -> Asked
+    // The register's offset, or 1 where the record breaks a line.
+    pub fn tail_register(self) -> Result<usize, Refusal>
         ensures { result ≡ tail_register_of self }
     {
         self.shared.tail_register(TAIL_REGISTER)
     }
 
-    fn post_answer(self, ring_length: usize, list_length: usize, lent: usize, room: Room) -> u8
+    // Kept: ring, list and buffer, and their lengths, one by one here and in each call, as mail_ring has them (`lent_ok`).
+    fn post_answer(self, ring_length: usize, list_length: usize, lent: usize, room: Room) -> Answer
         ensures { result ≡ post_answer self ring_length list_length lent room }
     {
         if !self.shared.lent_ok(ring_length, list_length) {
-            return 1;
+            return Err(Refusal::WrongRecord);
         }
         if (room.length == 0) | mail_request::length_wrong(true, room.length, lent) {
-            return 11;
+            return Err(Refusal::WrongLength);
         }
         if mail_request::address_wrong(room.address, room.length) {
-            return 2;
+            return Err(Refusal::WrongAddress);
         }
-        if self.shared.full() { 3 } else { 0 }
+        if self.shared.full() {
+            return Err(Refusal::NoRoom);
+        }
+        Ok(())
     }
 
-    // Room for a message. Answers 1, 11, 2 or 3 in this order, or 0 with the element posted; a refusal changes nothing.
+    // Room for a message. Refused with 1, 11, 2 or 3 in this order, or the element is posted; a refusal changes nothing.
     pub fn post(self, ring: &mut [u8], list: &mut [u32], buffer: &[u8], room: Room) -> Posted
         ensures { PostedAs self ring.old list.old (length buffer.now) room result ring.new list.new }
     {
-        let answer = self.post_answer(ring.len(), list.len(), buffer.len(), room);
-        if answer != 0 {
+        if let Err(refusal) = self.post_answer(ring.len(), list.len(), buffer.len(), room) {
             return Posted {
-                answer,
+                answer: Err(refusal),
                 queue: self,
             };
         }
         let e = mail_request::room_element(room);
         let shared = self.shared.put(ring, list, e);
         Posted {
-            answer,
+            answer: Ok(()),
             queue: ReceiveRing { shared },
         }
     }
 
-    // The oldest message. Answers 1, 4, 5 or 11 in this order, or 0 with its element handed back.
+    // The oldest message. Refused with 1, 4, 5 or 11 in this order, or its element is handed back.
     pub fn message(self, ring: &[u8], list: &[u32], buffer: &[u8]) -> Received
         ensures { result ≡ message_of self ring.now list.now (length buffer.now) }
     {
         let seen = self.shared.look(ring, list);
         let e = seen.element;
         let wrong = mail_reading::message_wrong(e, seen.posted);
-        let answer = mail_reading::answer(seen.answer, wrong, e, buffer.len());
-        if answer != 0 {
+        if let Err(refusal) = mail_reading::answer(seen.answer, wrong, e, buffer.len()) {
             return Received {
-                answer,
+                answer: Err(refusal),
                 queue: self,
                 reading: mail_reading::no_reading(),
             };
         }
         let reading = mail_reading::reading_of(self.shared.head, e);
         Received {
-            answer,
+            answer: Ok(()),
             queue: ReceiveRing {
                 shared: self.shared.advanced(),
             },

@@ -1,13 +1,7 @@
 -- Each request reads back from its element, whose fields hold it; the device's own flags are clear in it.
 -- Assumes nothing.
-use Prim.Native.Nat.{ℕ, ◌/◌, ◌%◌, ◌^◌, ◌≤◌, ◌<◌}
-use mathlib.Core.Path.{◌≡◌, refl}
-use mathlib.Core.Bool.{Bool, true, false, cond}
-use mathlib.Core.List.{List}
-use native.Mathlib.Nat.{div-add-mod, div-one, mod-lt}
-use native.Mathlib.Omega.{arith}
-use lib.Dec.{lit<, eqb}
-use lib.ListN.{length}
+use Rattle.std.proofs.Common.{ℕ, ◌/◌, ◌%◌, ◌^◌, ◌≤◌, ◌<◌, ◌≡◌, refl, Bool, true, false, cond, List, div-one, mod-lt, arith, lit<, eqb, length}
+use native.Mathlib.Nat.{div-add-mod}
 use Rattle.field.specs.Field.{bit}
 use Rattle.field.proofs.Laws.{reads_free, word_below}
 use Rattle.mail_flags.specs.declared.Flags.{Flags}

@@ -1,6 +1,6 @@
 -- The elements that were worked out by hand are those of the definitions, byte for byte.
 -- Assumes nothing.
-use mathlib.Core.Path.{◌≡◌, refl}
+use Rattle.std.proofs.Common.{◌≡◌, refl}
 use Rattle.element.specs.Element.{element_bytes}
 use Rattle.mail_request.specs.Examples.{Example, indirect, direct, empty, unloading, room}
 

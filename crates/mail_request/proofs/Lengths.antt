@@ -1,11 +1,6 @@
 -- What a length that is not wrong keeps.
 -- Assumes nothing.
-use Prim.Native.Nat.{ℕ, ◌≤◌}
-use mathlib.Core.Path.{◌≡◌}
-use mathlib.Core.Bool.{Bool, false, not, ◌&&◌}
-use mathlib.Core.List.{[], ◌∷◌}
-use borrow.Author.Tests.{ltb-false}
-use lib.Dec.{ltb, eqb}
+use Rattle.std.proofs.Common.{ℕ, ◌≤◌, ◌≡◌, Bool, false, not, ◌&&◌, [], ◌∷◌, ltb-false, ltb, eqb}
 use Rattle.rules.proofs.Tests.{none}
 use Rattle.mail_request.specs.Request.{most_length, length_wrong}
 

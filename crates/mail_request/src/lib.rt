@@ -3,17 +3,17 @@
 
 ghost use Rattle.std.specs.Prelude.{◌≡◌, cond, ◌≤◌};
 ghost use Rattle.rules.specs.Address.{address_wrong};
+ghost use Rattle.element.specs.Element.{no_cookie};
 ghost use Rattle.mail_request.specs.Request.{most_length, length_wrong, element_of, send_element, shutdown_element, room_element};
 
 use element::{COOKIE, Element};
 use mail_flags::Flags;
 
 // The opcodes of a driver's elements. One posted to be received has none.
+// Kept: numbers and no enum, since the device may write any opcode into the element that is read (`completion_wrong`).
 pub const SEND_TO_PF: u16 = 0x0801;
 
 pub const QUEUE_SHUTDOWN: u16 = 0x0003;
-
-const NO_OPCODE: u16 = 0;
 
 // The longest message, and the longest buffer that is not a large one.
 const LENGTH_MOST: usize = 4096;
@@ -24,7 +24,8 @@ const LARGE_BUFFER: usize = 512;
 const HALF: u64 = 0x1_0000_0000;
 
 // A message to be sent: in a buffer at an address, or in the cookie.
-#[derive(Clone, Copy)]
+// Kept: `buf` beside `address`, and no Option, since the edit address_without_buffer gives an address where `buf` is clear.
+#[derive(Clone, Copy, Debug, PartialEq, Eq)]
 pub struct Message {
     pub buf: bool,
     pub length: usize,
@@ -35,7 +36,7 @@ pub struct Message {
     pub cookie: [u8; COOKIE],
 }
 
-#[derive(Clone, Copy)]
+#[derive(Clone, Copy, Debug, PartialEq, Eq)]
 pub struct Shutdown {
     pub unloading: bool,
     pub si: bool,
@@ -45,7 +46,7 @@ pub struct Shutdown {
 }
 
 // Room for a message to be received, a buffer at an address.
-#[derive(Clone, Copy)]
+#[derive(Clone, Copy, Debug, PartialEq, Eq)]
 pub struct Room {
     pub length: usize,
     pub address: u64,
@@ -72,26 +73,13 @@ pub fn address_wrong(address: u64, length: usize) -> bool
 }
 
 // All other fields are 0.
-fn element_of(
-    flags: u16,
-    opcode: u16,
-    length: u16,
-    cookie: [u8; COOKIE],
-    param0: u32,
-    address: u64,
-) -> Element
-    ensures { result ≡ element_of flags opcode length cookie param0 address }
+fn addressed(address: u64) -> Element
+    ensures { result ≡ element_of 0 0 0 no_cookie 0 address }
 {
     Element {
-        flags,
-        opcode,
-        length,
-        value: 0,
-        cookie,
-        param0,
-        param1: 0,
         high: (address / HALF) as u32,
         low: (address % HALF) as u32,
+        ..Element::default()
     }
 }
 
@@ -106,45 +94,58 @@ pub fn send_element(m: Message) -> Element
     requires { m.length ≤ most_length }
     ensures { result ≡ send_element m }
 {
-    let cookie = m.cookie;
-    let address = buffer_address(m.buf, m.address);
-    let flags = mail_flags::flags_of(Flags {
+    let flags = Flags {
         lb: m.buf & (LARGE_BUFFER < m.length),
         rd: m.buf & (m.length != 0),
         buf: m.buf,
         si: m.si,
         ei: m.ei,
         fe: m.fe,
-    });
-    element_of(flags, SEND_TO_PF, m.length as u16, cookie, 0, address)
+    };
+    // Kept: a `let` for the cookie, here and wherever an element's is read: the borrow checker refuses an array field that is given straight.
+    let cookie = m.cookie;
+    Element {
+        flags: mail_flags::flags_of(flags),
+        opcode: SEND_TO_PF,
+        length: m.length as u16,
+        cookie,
+        ..addressed(buffer_address(m.buf, m.address))
+    }
 }
 
 pub fn shutdown_element(s: Shutdown) -> Element
     ensures { result ≡ shutdown_element s }
 {
-    let cookie = s.cookie;
-    let flags = mail_flags::flags_of(Flags {
-        lb: false,
-        rd: false,
-        buf: false,
+    let flags = Flags {
         si: s.si,
         ei: s.ei,
         fe: s.fe,
-    });
-    element_of(flags, QUEUE_SHUTDOWN, 0, cookie, s.unloading as u32, 0)
+        ..Flags::default()
+    };
+    let cookie = s.cookie;
+    Element {
+        flags: mail_flags::flags_of(flags),
+        opcode: QUEUE_SHUTDOWN,
+        cookie,
+        param0: s.unloading as u32,
+        ..Element::default()
+    }
 }
 
 pub fn room_element(r: Room) -> Element
     requires { r.length ≤ most_length }
     ensures { result ≡ room_element r }
 {
-    let flags = mail_flags::flags_of(Flags {
+    let flags = Flags {
         lb: LARGE_BUFFER < r.length,
-        rd: false,
         buf: true,
         si: r.si,
         ei: r.ei,
-        fe: false,
-    });
-    element_of(flags, NO_OPCODE, r.length as u16, [0; COOKIE], 0, r.address)
+        ..Flags::default()
+    };
+    Element {
+        flags: mail_flags::flags_of(flags),
+        length: r.length as u16,
+        ..addressed(r.address)
+    }
 }

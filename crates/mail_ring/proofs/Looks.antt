@@ -1,5 +1,7 @@
 -- What is seen of the element at head, case by case.
 -- Assumes nothing.
+use Rattle.rules.proofs.Answers.{done-is_ok}
+use Rattle.std.specs.Prelude.{is_ok}
 use mathlib.Core.Path.{◌≡◌, refl, sym, ◌∙◌}
 use mathlib.Core.Logic.{◌≢◌}
 use mathlib.Core.Bool.{Bool, true, false, not, cond}
@@ -9,7 +11,7 @@ use Prim.Native.Nat.{ℕ}
 use native.Mathlib.Omega.{arith}
 use lib.Dec.{eqb}
 use lib.ListN.{length}
-use Rattle.rules.specs.Rules.{Check, answer_of}
+use Rattle.rules.specs.Rules.{Check, answer_of, done, Answer, answer_at}
 use Rattle.rules.proofs.Tests.{neither}
 use Rattle.rules.proofs.Checks.{passed, asked_next}
 use Rattle.field.specs.Field.{is_set}
@@ -23,58 +25,58 @@ use Rattle.mail_ring.specs.Steps.{Lent, Waiting}
 use Rattle.mail_ring.proofs.Record.{lent}
 
 module _ (r : Ring) (ring list : List ℕ) where
-  pub not_lent : lent_ok r (length ring) (length list) ≡ false → unseen 1 ≡ look_of r ring list
+  pub not_lent : lent_ok r (length ring) (length list) ≡ false → unseen (answer_at 1) ≡ look_of r ring list
   unfolding look_of
   not_lent l = rw l
 
   module _ (l : lent_ok r (length ring) (length list) ≡ true) where
-    pub none_posted : r.posted ≡ 0 → unseen 4 ≡ look_of r ring list
+    pub none_posted : r.posted ≡ 0 → unseen (answer_at 4) ≡ look_of r ring list
     unfolding look_of
     none_posted z = rw (l, eq-eqb r.posted 0 z)
 
     module _ (some : r.posted ≢ 0) where
-      pub not_done : is_set dd_flag (head_element r ring list).flags ≡ false → unseen 4 ≡ look_of r ring list
+      pub not_done : is_set dd_flag (head_element r ring list).flags ≡ false → unseen (answer_at 4) ≡ look_of r ring list
       unfolding look_of
       not_done d = rw (l, ne_eqb r.posted 0 some, d)
 
-      pub is_done : is_set dd_flag (head_element r ring list).flags ≡ true → record { answer = 0; element = head_element r ring list; posted = head_posted r ring list } ≡ look_of r ring list
+      pub is_done : is_set dd_flag (head_element r ring list).flags ≡ true → record { answer = done; element = head_element r ring list; posted = head_posted r ring list } ≡ look_of r ring list
       unfolding look_of
       is_done d = rw (l, ne_eqb r.posted 0 some, d)
 
   -- ---- what a look is good for
 
   -- an element that the device is not done with is not read
-  pub not_yet : lent_ok r (length ring) (length list) ≡ true → r.posted ≢ 0 → is_set dd_flag (head_element r ring list).flags ≡ false → answer_of (look_checks r ring list) ≡ 4
+  pub not_yet : lent_ok r (length ring) (length list) ≡ true → r.posted ≢ 0 → is_set dd_flag (head_element r ring list).flags ≡ false → answer_of (look_checks r ring list) ≡ answer_at 4
   not_yet l some d = rw (l, ne_eqb r.posted 0 some, d)
 
   -- an element that is seen is the one at head, of a ring that was lent as its size asks, and is posted
-  pub seen : answer_of (look_checks r ring list) ≡ 0 → look_of r ring list ≡ record { answer = 0; element = head_element r ring list; posted = head_posted r ring list }
+  pub seen : answer_of (look_checks r ring list) ≡ done → look_of r ring list ≡ record { answer = done; element = head_element r ring list; posted = head_posted r ring list }
   unfolding look_of
-  seen z = rw (eq-eqb (answer_of (look_checks r ring list)) 0 z)
+  seen z = rw (done-is_ok (answer_of (look_checks r ring list)) z)
 
-  pub seen_lent : answer_of (look_checks r ring list) ≡ 0 → Lent r (length ring) (length list)
+  pub seen_lent : answer_of (look_checks r ring list) ≡ done → Lent r (length ring) (length list)
   seen_lent z = lent r (length ring) (length list) (not-false _ (passed (look_checks r ring list) tt z 0))
 
-  pub seen_waiting : answer_of (look_checks r ring list) ≡ 0 → Waiting r
+  pub seen_waiting : answer_of (look_checks r ring list) ≡ done → Waiting r
   seen_waiting z =
       let n = neither (eqb r.posted 0) (not (is_set dd_flag (head_element r ring list).flags)) (passed (look_checks r ring list) tt z 1) in
       let ne : r.posted ≢ 0 = eqb-false _ _ n.0 in
       record { is = (seen_lent z).is; some = omega (arith, ne) }
 
   -- checks that go on with what was seen go on with the element at head
-  pub look_next : (ds : Element → ℕ → List Check) → cond (eqb (look_of r ring list).answer 0) (answer_of (ds (look_of r ring list).element (look_of r ring list).posted)) (look_of r ring list).answer
+  pub look_next : (ds : Element → ℕ → List Check) → cond (is_ok (look_of r ring list).answer) (answer_of (ds (look_of r ring list).element (look_of r ring list).posted)) (look_of r ring list).answer
       ≡ answer_of (look_checks r ring list ++ ds (head_element r ring list) (head_posted r ring list))
   unfolding look_of
-  look_next ds = go (eqb n 0) refl ∙ sym (asked_next (look_checks r ring list) (ds (head_element r ring list) (head_posted r ring list)) tt)
+  look_next ds = go (is_ok n) refl ∙ sym (asked_next (look_checks r ring list) (ds (head_element r ring list) (head_posted r ring list)) tt)
     where
-      n : ℕ
+      n : Answer
       n = answer_of (look_checks r ring list)
 
       whole : Seen
-      whole = record { answer = 0; element = head_element r ring list; posted = head_posted r ring list }
+      whole = record { answer = done; element = head_element r ring list; posted = head_posted r ring list }
 
-      go : (b : Bool) → eqb n 0 ≡ b
-          → cond (eqb (cond b whole (unseen n)).answer 0) (answer_of (ds (cond b whole (unseen n)).element (cond b whole (unseen n)).posted)) (cond b whole (unseen n)).answer
+      go : (b : Bool) → is_ok n ≡ b
+          → cond (is_ok (cond b whole (unseen n)).answer) (answer_of (ds (cond b whole (unseen n)).element (cond b whole (unseen n)).posted)) (cond b whole (unseen n)).answer
           ≡ cond b (answer_of (ds (head_element r ring list) (head_posted r ring list))) n
       go true e = refl
       go false e = rw e

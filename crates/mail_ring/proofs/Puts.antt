@@ -1,6 +1,8 @@
 -- What posting an element leaves, for either ring and every element: it reads back at the tail, every other element and its companion stay, and so do those
 -- that the device has; a refusal changes nothing.
 -- Assumes nothing.
+use Rattle.rules.proofs.Answers.{done-is_ok, refused-is_ok}
+use Rattle.std.specs.Prelude.{is_ok}
 use Prim.Native.Nat.{ℕ, ◌+◌, ◌*◌, ◌/◌, ◌%◌, ◌≤◌, ◌<◌}
 use mathlib.Core.Path.{◌≡◌, refl, ap, ◌∙◌}
 use mathlib.Core.Logic.{◌≢◌}
@@ -11,7 +13,7 @@ use borrow.Author.Tests.{eq-eqb, ne_eqb}
 use lib.Dec.{eqb}
 use lib.ListN.{length, get_or, set, length-set}
 use lib.Seq.{get_or-set_same, get_or-set_other}
-use Rattle.rules.specs.Rules.{answer_of}
+use Rattle.rules.specs.Rules.{answer_of, done, Answer, answer_at}
 use Rattle.rules.proofs.Checks.{by_answer}
 use Rattle.field.specs.Field.{read_at, is_set}
 use Rattle.slots.specs.Slots.{distance}
@@ -32,13 +34,13 @@ use Rattle.mail_ring.specs.Steps.{Placed, Lent, Room}
 use Rattle.mail_ring.proofs.Looks.{not_yet}
 use Rattle.mail_ring.proofs.Record.{tail_below, is_placed, grown_placed}
 
-module _ (answer : ℕ) (r : Ring) (ring list : List ℕ) (e : Element) where
-  pub refused : answer ≢ 0 → Unchanged answer r ring list e
-  refused ne = let b = ne_eqb answer 0 ne in record { record_same = rw b; ring_same = rw b; list_same = rw b }
+module _ (answer : Answer) (r : Ring) (ring list : List ℕ) (e : Element) where
+  pub refused : answer ≢ done → Unchanged answer r ring list e
+  refused ne = let b = refused-is_ok answer ne in record { record_same = rw b; ring_same = rw b; list_same = rw b }
 
   -- every other element stays, byte for byte, and its companion
   pub others_stay : Holds e → OthersStay answer r ring list e
-  others_stay h = record { bytes_same = λ s ne. bytes s ne (eqb answer 0); companion_same = λ s ne. companion s ne (eqb answer 0) }
+  others_stay h = record { bytes_same = λ s ne. bytes s ne (is_ok answer); companion_same = λ s ne. companion s ne (is_ok answer) }
     where
       bytes : (s : ℕ) → s ≢ tail_of r → (b : Bool) → numbers_at 32 (cond b (store 32 ring (tail_of r) (element_bytes e)) ring) s ≡ numbers_at 32 ring s
       bytes s ne true = read_other 32 ring (tail_of r) (element_bytes e) s (long e h) ne
@@ -49,9 +51,9 @@ module _ (answer : ℕ) (r : Ring) (ring list : List ℕ) (e : Element) where
       companion s ne false = refl
 
   -- an accepted one stands at the tail
-  pub stands : Holds e → answer ≡ 0 → Lent r (length ring) (length list) → Stands answer r ring list e
+  pub stands : Holds e → answer ≡ done → Lent r (length ring) (length list) → Stands answer r ring list e
   stands h z l =
-      let b = eq-eqb answer 0 z in
+      let b = done-is_ok answer z in
       let t = tail_below l.is in
       let inside : 32 * tail_of r + 32 ≤ length ring = omega (arith, t, l.ring_long) in
       let there : tail_of r < length list = omega (arith, t, l.list_long) in
@@ -68,7 +70,7 @@ devices_apart r p s l e =
     omega (arith, far)
 
 -- a record stays accepted
-pub after_ok : (answer : ℕ) (r : Ring) (ring list : List ℕ) (e : Element) → ring_ok r ≡ true → (answer ≡ 0 → Room r (length ring) (length list)) → ring_ok (record_after answer r ring list e) ≡ true
+pub after_ok : (answer : Answer) (r : Ring) (ring list : List ℕ) (e : Element) → ring_ok r ≡ true → (answer ≡ done → Room r (length ring) (length list)) → ring_ok (record_after answer r ring list e) ≡ true
 after_ok answer r ring list e ok h =
     by_answer (λ (x : Ring). ring_ok x ≡ true) answer (grown r) r (λ z. is_placed (grown r) (grown_placed r (h z).lent.is (h z).room)) ok
 
@@ -89,7 +91,7 @@ companion_bytes e h = omega (arith, h.flags_fit, h.opcode_fits)
 clear_dd : (e : Element) → Clear e → is_set dd_flag e.flags ≡ false
 clear_dd e c = let none : read_at dd_flag e.flags ≢ 1 = λ q. omega (arith, c) in ne_eqb (read_at dd_flag e.flags) 1 none
 
-module _ (answer : ℕ) (r : Ring) (ring list : List ℕ) (e : Element) (z : answer ≡ 0) (l : Lent r (length ring) (length list)) (r' : Ring) (ok : ring_ok r' ≡ true) (size_is : r'.size ≡ r.size) where
+module _ (answer : Answer) (r : Ring) (ring list : List ℕ) (e : Element) (z : answer ≡ done) (l : Lent r (length ring) (length list)) (r' : Ring) (ok : ring_ok r' ≡ true) (size_is : r'.size ≡ r.size) where
   abbrev ring' : List ℕ
   ring' = ring_after answer r ring list e
 
@@ -97,10 +99,10 @@ module _ (answer : ℕ) (r : Ring) (ring list : List ℕ) (e : Element) (z : ans
   list' = list_after answer r ring list e
 
   ring_long : length ring' ≡ 32 * r'.size
-  ring_long = rw (eq-eqb answer 0 z, size_is) (length_store 32 ring (tail_of r) (element_bytes e) ∙ l.ring_long)
+  ring_long = rw (done-is_ok answer z, size_is) (length_store 32 ring (tail_of r) (element_bytes e) ∙ l.ring_long)
 
   list_long : length list' ≡ r'.size
-  list_long = rw (eq-eqb answer 0 z, size_is) (length-set list (tail_of r) (companion_of e) ∙ l.list_long)
+  list_long = rw (done-is_ok answer z, size_is) (length-set list (tail_of r) (companion_of e) ∙ l.list_long)
 
   -- what it leaves is what every record of this size is to be lent
   pub lent_after : lent_ok r' (length ring') (length list') ≡ true
@@ -108,7 +110,7 @@ module _ (answer : ℕ) (r : Ring) (ring list : List ℕ) (e : Element) (z : ans
   lent_after = rw (ok, eq-eqb (length ring') (32 * r'.size) ring_long, eq-eqb (length list') r'.size list_long)
 
   -- NOTHING STALE: once the element is the oldest, it is not read until the device has written it, whatever the last lap left there
-  pub nothing_stale : Holds e → Clear e → r'.head ≡ tail_of r → r'.posted ≢ 0 → answer_of (look_checks r' ring' list') ≡ 4
+  pub nothing_stale : Holds e → Clear e → r'.head ≡ tail_of r → r'.posted ≢ 0 → answer_of (look_checks r' ring' list') ≡ answer_at 4
   nothing_stale h c head-is some =
       let is : element_at ring' r'.head ≡ e = rw head-is (stands answer r ring list e h z l).element_is in
       not_yet r' ring' list' lent_after some (ap (λ (x : Element). is_set dd_flag x.flags) is ∙ clear_dd e c)

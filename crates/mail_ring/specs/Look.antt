@@ -1,7 +1,7 @@
 -- The element at head (02, "The mailbox"): whether there is one to read, and what it and the companion list say.
 -- Assumes nothing.
-use Rattle.std.specs.Prelude.{ℕ, not, ◌||◌, cond, List, [], ◌∷◌, eqb, length, get_or}
-use Rattle.rules.specs.Rules.{Check, ◌when◌, answer_of}
+use Rattle.std.specs.Prelude.{ℕ, not, ◌||◌, cond, List, [], ◌∷◌, eqb, length, get_or, is_ok}
+use Rattle.rules.specs.Rules.{Check, ◌when◌, answer_of, done, Answer}
 use Rattle.field.specs.Field.{is_set}
 use Rattle.mail_flags.specs.Flags.{dd_flag}
 use Rattle.element.specs.Element.{no_cookie, element_at}
@@ -13,7 +13,7 @@ use Rattle.mail_ring.specs.Ring.{lent_ok}
 abbrev pub no_element : Element
 no_element = record { flags = 0; opcode = 0; length = 0; value = 0; cookie = no_cookie; param0 = 0; param1 = 0; high = 0; low = 0 }
 
-abbrev pub unseen : ℕ → Seen
+abbrev pub unseen : Answer → Seen
 unseen answer = record { answer = answer; element = no_element; posted = 0 }
 
 module _ (r : Ring) (ring list : List ℕ) where
@@ -32,4 +32,4 @@ module _ (r : Ring) (ring list : List ℕ) where
 
   -- what is seen of it
   unfoldable pub look_of : Seen
-  look_of = cond (eqb (answer_of look_checks) 0) (record { answer = 0; element = head_element; posted = head_posted }) (unseen (answer_of look_checks))
+  look_of = cond (is_ok (answer_of look_checks)) (record { answer = done; element = head_element; posted = head_posted }) (unseen (answer_of look_checks))

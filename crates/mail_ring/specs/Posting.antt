@@ -1,22 +1,23 @@
--- What posting an element leaves (02, "The mailbox"), for either ring and every element: where the call answers 0 it stands at the tail, in the ring and
+-- What posting an element leaves (02, "The mailbox"), for either ring and every element: where the call is done it stands at the tail, in the ring and
 -- in the companion list, and is counted; a refusal changes nothing.
 -- Assumes nothing.
-use Rattle.std.specs.Prelude.{ℕ, ◌≡◌, ◌≢◌, cond, List, eqb, get_or, set}
+use Rattle.rules.specs.Rules.{done, Answer}
+use Rattle.std.specs.Prelude.{ℕ, ◌≡◌, ◌≢◌, cond, List, eqb, get_or, set, is_ok}
 use Rattle.slots.specs.Memory.{store, numbers_at}
 use Rattle.element.specs.declared.Element.{Element}
 use Rattle.element.specs.Element.{element_bytes, element_at}
 use Rattle.mail_ring.specs.declared.Ring.{Ring}
 use Rattle.mail_ring.specs.Ring.{tail_of, grown, companion_of}
 
-module _ (answer : ℕ) (r : Ring) (ring list : List ℕ) (e : Element) where
+module _ (answer : Answer) (r : Ring) (ring list : List ℕ) (e : Element) where
   abbrev pub record_after : Ring
-  record_after = cond (eqb answer 0) (grown r) r
+  record_after = cond (is_ok answer) (grown r) r
 
   abbrev pub ring_after : List ℕ
-  ring_after = cond (eqb answer 0) (store 32 ring (tail_of r) (element_bytes e)) ring
+  ring_after = cond (is_ok answer) (store 32 ring (tail_of r) (element_bytes e)) ring
 
   abbrev pub list_after : List ℕ
-  list_after = cond (eqb answer 0) (set list (tail_of r) (companion_of e)) list
+  list_after = cond (is_ok answer) (set list (tail_of r) (companion_of e)) list
 
   -- a refusal changes nothing
   pub record Unchanged : Type 0 where

@@ -1,24 +1,25 @@
 // What both mailbox rings share: the part of their records with its lines, the element put at the tail, and the one at head looked at.
 #![tactic(auto)]
 
-ghost use Rattle.std.specs.Prelude.{◌≡◌, length};
+ghost use Rattle.std.specs.Prelude.{◌≡◌, length, Err};
 ghost use Rattle.ring.specs.Queue.{asked_of};
 ghost use Rattle.mail_ring.specs.Ring.{ring_ok, lent_ok, empty_ring, tail_of, is_full, advanced};
 ghost use Rattle.mail_ring.specs.Look.{look_of, unseen};
 ghost use Rattle.mail_ring.specs.Steps.{Placed, Room, Waiting, PutAs};
 
-use element::{COOKIE, ELEMENT, Element};
-use ring::Asked;
+use element::{ELEMENT, Element};
+use rules::{Answer, Refusal};
 
 const SIZE_LEAST: usize = 1;
 
 const SIZE_MOST: usize = 1023;
 
 // The companion list has an element's opcode above its flags.
+// Kept: two numbers in one, here and in mail_reading's `posted`, since the list is of 32-bit numbers that scripts and the second program read.
 pub const OPCODE: u32 = 65536;
 
 // The part of the record that both rings have.
-#[derive(Clone, Copy)]
+#[derive(Clone, Copy, Debug, PartialEq, Eq)]
 pub struct Ring {
     pub size: usize,
     pub head: usize,
@@ -26,29 +27,20 @@ pub struct Ring {
 }
 
 // The element at head and what was posted there, where the device is done with it; zeros beside 1 and 4.
-#[derive(Clone, Copy)]
+// Kept: they are an element of zeros, of which a reading asks its causes before the answer (contracts of `look` and of mail_reading `answer`).
+#[derive(Clone, Copy, Debug, PartialEq, Eq)]
 pub struct Seen {
-    pub answer: u8,
+    pub answer: Answer,
     pub element: Element,
     pub posted: u32,
 }
 
-fn unseen(answer: u8) -> Seen
-    ensures { result ≡ unseen answer }
+fn unseen(refusal: Refusal) -> Seen
+    ensures { result ≡ unseen (Err refusal) }
 {
     Seen {
-        answer,
-        element: Element {
-            flags: 0,
-            opcode: 0,
-            length: 0,
-            value: 0,
-            cookie: [0; COOKIE],
-            param0: 0,
-            param1: 0,
-            high: 0,
-            low: 0,
-        },
+        answer: Err(refusal),
+        element: Element::default(),
         posted: 0,
     }
 }
@@ -72,6 +64,7 @@ impl Ring {
     }
 
     // The record, and the lengths of the lent ring in bytes and of the companion list.
+    // Kept: two lengths here, and ring and list in put and look, since a caller lends them as 01's queues are lent, slice by slice (docs/MANUAL.md).
     pub fn lent_ok(self, ring_length: usize, list_length: usize) -> bool
         ensures { result ≡ lent_ok self ring_length list_length }
     {
@@ -82,37 +75,26 @@ impl Ring {
         }
     }
 
-    // Answers 0 with the tail value, or 1 with 0 where the record breaks a line.
-    pub fn tail_value(self) -> Asked
+    // The tail value, or 1 where the record breaks a line.
+    // Kept: no private function of the test and the value for this and the register, since what `slots::slot` requires hangs on the test.
+    pub fn tail_value(self) -> Result<usize, Refusal>
         ensures { result ≡ asked_of (ring_ok self) (tail_of self) }
     {
         if self.ok() {
-            Asked {
-                answer: 0,
-                value: slots::slot(self.head, self.size, self.posted),
-            }
+            Ok(slots::slot(self.head, self.size, self.posted))
         } else {
-            Asked {
-                answer: 1,
-                value: 0,
-            }
+            Err(Refusal::WrongRecord)
         }
     }
 
     // The same with the offset of a register.
-    pub fn tail_register(self, register: u16) -> Asked
+    pub fn tail_register(self, register: u16) -> Result<usize, Refusal>
         ensures { result ≡ asked_of (ring_ok self) register }
     {
         if self.ok() {
-            Asked {
-                answer: 0,
-                value: register as usize,
-            }
+            Ok(register as usize)
         } else {
-            Asked {
-                answer: 1,
-                value: 0,
-            }
+            Err(Refusal::WrongRecord)
         }
     }
 
@@ -150,26 +132,26 @@ impl Ring {
         }
     }
 
-    // The element at head, read once: answers 1 or 4 in this order, or 0.
+    // The element at head, read once: refused with 1 or 4 in this order.
     pub fn look(self, ring: &[u8], list: &[u32]) -> Seen
         ensures { result ≡ look_of self ring.now list.now }
     {
         if !self.lent_ok(ring.len(), list.len()) {
-            return unseen(1);
+            return unseen(Refusal::WrongRecord);
         }
         if self.posted == 0 {
-            return unseen(4);
+            return unseen(Refusal::NotYet);
         }
         let head = self.head;
         let element = element::read(ring, head);
         if mail_flags::dd(element.flags) {
             Seen {
-                answer: 0,
+                answer: Ok(()),
                 element,
                 posted: list[head],
             }
         } else {
-            unseen(4)
+            unseen(Refusal::NotYet)
         }
     }
 }

@@ -1,5 +1,6 @@
 -- What was sent reads back: at once as its request, and completed by a device that sets DD and CMP and leaves the rest.
 -- Assumes nothing.
+use Rattle.rules.specs.Rules.{done}
 use Prim.Native.Nat.{ℕ, ◌^◌, ◌≤◌, ◌<◌}
 use mathlib.Core.Path.{◌≡◌, ap, ◌∙◌}
 use mathlib.Core.Bool.{Bool, true, false, cond}
@@ -29,7 +30,7 @@ written : (b : Bool) (address : ℕ) → address < 2 ^ 64 → cond b address 0 <
 written true address h = h
 written false address h = lit< tt
 
-module _ (q : SendRing) (ring list : List ℕ) (lent : ℕ) (m : Message) (z : answer_to_send q ring list lent m ≡ 0) (eight : length m.cookie ≡ 8) (small : m.address < 2 ^ 64) where
+module _ (q : SendRing) (ring list : List ℕ) (lent : ℕ) (m : Message) (z : answer_to_send q ring list lent m ≡ done) (eight : length m.cookie ≡ 8) (small : m.address < 2 ^ 64) where
   pub send_holds : Holds (send_element m)
   send_holds = holds (send_flags m) send_to_pf m.length m.cookie 0 (cond m.buf m.address 0) (lit< tt) (send_short q (length ring) (length list) lent m z) eight (omega arith) (written m.buf m.address small)
 
@@ -43,7 +44,7 @@ module _ (q : SendRing) (ring list : List ℕ) (lent : ℕ) (m : Message) (z : a
   pub send_reads : message_in (element_at (ring_after (answer_to_send q ring list lent m) q.shared ring list (send_element m)) (tail_of q.shared)) ≡ as_sent m
   send_reads = ap message_in send_stands.element_is ∙ message_back m
 
-module _ (q : SendRing) (ring list : List ℕ) (s : Shutdown) (z : answer_to_shutdown q ring list s ≡ 0) (eight : length s.cookie ≡ 8) where
+module _ (q : SendRing) (ring list : List ℕ) (s : Shutdown) (z : answer_to_shutdown q ring list s ≡ done) (eight : length s.cookie ≡ 8) where
   pub shutdown_holds : Holds (shutdown_element s)
   shutdown_holds = holds (shutdown_flags s) queue_shutdown 0 s.cookie (bit s.unloading) 0 (lit< tt) (omega arith) eight (one s.unloading) (lit< tt)
     where

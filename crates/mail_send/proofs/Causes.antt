@@ -1,12 +1,14 @@
 -- Exact causes: each number is answered exactly if its cause holds and no earlier one does (`Answers` of rules, both ways).
 -- Assumes nothing.
+use Rattle.rules.specs.declared.Refusal.TheVariants.{WrongRecord}
+use Rattle.std.specs.Prelude.{Err}
 use Prim.Native.Nat.{ℕ}
 use mathlib.Core.Path.{◌≡◌, refl}
 use mathlib.Core.Logic.{◌≢◌}
 use mathlib.Core.Bool.{not}
 use mathlib.Core.List.{List, [], ◌∷◌}
 use lib.ListN.{length}
-use Rattle.rules.specs.Rules.{◌when◌, answer_of, Answers}
+use Rattle.rules.specs.Rules.{◌when◌, answer_of, Answers, done, answered, Answer}
 use Rattle.rules.proofs.Checks.{has_cause, is_answered, one_check}
 use Rattle.mail_ring.specs.Ring.{ring_ok, empty_ring}
 use Rattle.mail_request.specs.declared.Message.{Message}
@@ -17,12 +19,12 @@ use Rattle.mail_send.specs.Sending.{empty_send, fresh_of, send_checks, send_answ
 
 pub fresh_answer : (size : ℕ) → (fresh_of size).answer ≡ answer_of (1 when not (ring_ok (empty_ring size)) ∷ [])
 unfolding fresh_of
-fresh_answer size = one_check (λ (f : Sent). f.answer) (ring_ok (empty_ring size)) (record { answer = 0; queue = empty_send size }) (record { answer = 1; queue = empty_send 0 }) refl refl
+fresh_answer size = one_check (λ (f : Sent). f.answer) (ring_ok (empty_ring size)) (record { answer = done; queue = empty_send size }) (record { answer = Err WrongRecord; queue = empty_send 0 }) refl refl
 
 -- ---- Send to PF: 1, 12, 11, 2, 3
 
-module _ (q : SendRing) (ring list : List ℕ) (lent : ℕ) (m : Message) (n : ℕ) where
-  pub send_cause : answer_to_send q ring list lent m ≡ n → n ≢ 0 → (i : ℕ) × Answers (send_checks q (length ring) (length list) lent m) n i
+module _ (q : SendRing) (ring list : List ℕ) (lent : ℕ) (m : Message) (n : Answer) where
+  pub send_cause : answer_to_send q ring list lent m ≡ n → n ≢ done → (i : ℕ) × Answers (send_checks q (length ring) (length list) lent m) n i
   unfolding send_answer
   send_cause e ne = has_cause _ n e ne
 
@@ -32,8 +34,8 @@ module _ (q : SendRing) (ring list : List ℕ) (lent : ℕ) (m : Message) (n : �
 
 -- ---- Queue Shutdown: 1, 12, 3
 
-module _ (q : SendRing) (ring list : List ℕ) (s : Shutdown) (n : ℕ) where
-  pub shutdown_cause : answer_to_shutdown q ring list s ≡ n → n ≢ 0 → (i : ℕ) × Answers (shutdown_checks q (length ring) (length list)) n i
+module _ (q : SendRing) (ring list : List ℕ) (s : Shutdown) (n : Answer) where
+  pub shutdown_cause : answer_to_shutdown q ring list s ≡ n → n ≢ done → (i : ℕ) × Answers (shutdown_checks q (length ring) (length list)) n i
   unfolding shutdown_answer
   shutdown_cause e ne = has_cause _ n e ne
 
@@ -43,8 +45,8 @@ module _ (q : SendRing) (ring list : List ℕ) (s : Shutdown) (n : ℕ) where
 
 -- ---- completions: 1, 4, 5, 11
 
-module _ (q : SendRing) (ring list : List ℕ) (lent n : ℕ) where
-  pub completion_cause : completion_answer q ring list lent ≡ n → n ≢ 0 → (i : ℕ) × Answers (completion_checks q ring list lent) n i
+module _ (q : SendRing) (ring list : List ℕ) (lent : ℕ) (n : Answer) where
+  pub completion_cause : completion_answer q ring list lent ≡ n → n ≢ done → (i : ℕ) × Answers (completion_checks q ring list lent) n i
   unfolding completion_answer
   completion_cause e ne = has_cause (completion_checks q ring list lent) n e ne
 

@@ -1,5 +1,8 @@
 -- What was sent comes back: completed by a device that sets DD and CMP and leaves the rest, it is read with 0, its own cookie and, without BUF, its 8 bytes.
 -- Assumes nothing.
+use Rattle.rules.proofs.Answers.{done-is_ok}
+use Rattle.rules.specs.declared.Refusal.TheVariants.{NotYet}
+use Rattle.std.specs.Prelude.{Err}
 use Prim.Native.Nat.{ℕ, ◌+◌, ◌*◌, ◌^◌, ◌≤◌, ◌<◌}
 use mathlib.Core.Path.{◌≡◌, refl, sym, ap, ◌∙◌}
 use mathlib.Core.Logic.{◌≢◌}
@@ -9,7 +12,7 @@ use native.Mathlib.Omega.{arith}
 use borrow.Author.Tests.{ne_eqb, eq-eqb, le-ltb}
 use lib.Dec.{ltb, eqb}
 use lib.ListN.{length, get_or, length-set}
-use Rattle.rules.specs.Rules.{◌when◌, answer_of}
+use Rattle.rules.specs.Rules.{Answer, done as all_done, ◌when◌, answer_of}
 use Rattle.rules.proofs.Tests.{none}
 use Rattle.rules.proofs.Checks.{passed}
 use Rattle.slots.proofs.Steps.{slot_here}
@@ -46,7 +49,7 @@ use Rattle.mail_send.proofs.Back.{send_holds, send_stands}
 
 module _ (q : SendRing) (ring list : List ℕ) (e : Element) (c : Completed q ring list e) (h : Holds e) (cl : Clear e) (sent : eqb e.opcode send_to_pf || eqb e.opcode queue_shutdown ≡ true) (lent : ℕ) (right : length_wrong (has_buffer e) e.length lent ≡ false) where
   -- the answer for an element and a companion at head
-  abbrev by : Element → ℕ → ℕ
+  abbrev by : Element → ℕ → Answer
   by x p =
       answer_of
       (1 when not (lent_ok q.shared (length ring) (length list))
@@ -55,7 +58,7 @@ module _ (q : SendRing) (ring list : List ℕ) (e : Element) (c : Completed q ri
       ∷ 11 when length_wrong (has_buffer x) x.length lent
       ∷ [])
 
-  echo_answer : completion_answer q ring list lent ≡ 0
+  echo_answer : completion_answer q ring list lent ≡ all_done
   unfolding completion_answer
   echo_answer =
       ap (λ (x : Element). by x (get_or list q.shared.head 0)) c.element_is
@@ -64,7 +67,7 @@ module _ (q : SendRing) (ring list : List ℕ) (e : Element) (c : Completed q ri
 
   -- what is read of an element
   abbrev given : Element → Completion
-  given x = record { answer = 0; queue = record { shared = advanced q.shared; shut = q.shut }; opcode = x.opcode; reading = reading_of q.shared.head x }
+  given x = record { answer = all_done; queue = record { shared = advanced q.shared; shut = q.shut }; opcode = x.opcode; reading = reading_of q.shared.head x }
 
   read_done : e.value ≡ 0 → reading_of q.shared.head (done e) ≡ message_at q.shared.head (has_buffer e) e.length e.cookie
   unfolding reading_of
@@ -72,10 +75,10 @@ module _ (q : SendRing) (ring list : List ℕ) (e : Element) (c : Completed q ri
 
   pub comes_back : e.value ≡ 0
       → completion_of q ring list lent
-      ≡ record { answer = 0; queue = record { shared = advanced q.shared; shut = q.shut }; opcode = e.opcode; reading = message_at q.shared.head (has_buffer e) e.length e.cookie }
+      ≡ record { answer = all_done; queue = record { shared = advanced q.shared; shut = q.shut }; opcode = e.opcode; reading = message_at q.shared.head (has_buffer e) e.length e.cookie }
   comes_back v =
       completion_given q ring list lent echo_answer ∙ ap given c.element_is
-      ∙ ap (λ (r : Reading). record { answer = 0; queue = record { shared = advanced q.shared; shut = q.shut }; opcode = e.opcode; reading = r }) (read_done v)
+      ∙ ap (λ (r : Reading). record { answer = all_done; queue = record { shared = advanced q.shared; shut = q.shut }; opcode = e.opcode; reading = r }) (read_done v)
 
 -- ---- a message: sent, completed, and read once it is the oldest
 
@@ -85,7 +88,7 @@ still_right buf n lent lent' w l =
     let no = none (ltb lent n ∷ ltb most_length n ∷ (not buf && not (eqb n 0)) ∷ []) w in
     rw (le-ltb lent' n l, no 1, no 2)
 
-module _ (q : SendRing) (ring list : List ℕ) (lent : ℕ) (m : Message) (z : answer_to_send q ring list lent m ≡ 0) (eight : length m.cookie ≡ 8) (small : m.address < 2 ^ 64) where
+module _ (q : SendRing) (ring list : List ℕ) (lent : ℕ) (m : Message) (z : answer_to_send q ring list lent m ≡ all_done) (eight : length m.cookie ≡ 8) (small : m.address < 2 ^ 64) where
   -- ring and list behind the send, and the ring once the device is done
   abbrev sent_list : List ℕ
   sent_list = list_after (answer_to_send q ring list lent m) q.shared ring list (send_element m)
@@ -112,7 +115,7 @@ module _ (q : SendRing) (ring list : List ℕ) (lent : ℕ) (m : Message) (z : a
 
     pub oldest : Completed r done_ring sent_list (send_element m)
     oldest =
-        let b = eq-eqb (answer_to_send q ring list lent m) 0 z in
+        let b = done-is_ok (answer_to_send q ring list lent m) z in
         let t : ℕ = tail_of q.shared in
         let inside : 32 * t + 32 ≤ length ring = omega (arith, tail_below lent_was.is, lent_was.ring_long) in
         record {
@@ -123,7 +126,7 @@ module _ (q : SendRing) (ring list : List ℕ) (lent : ℕ) (m : Message) (z : a
         }
 
     -- before the device is done it is not read, whatever stood in the element before
-    pub sent_not_yet : (lent' : ℕ) → completion_answer r sent_ring sent_list lent' ≡ 4
+    pub sent_not_yet : (lent' : ℕ) → completion_answer r sent_ring sent_list lent' ≡ Err NotYet
     unfolding completion_answer
     sent_not_yet lent' =
         read_not_yet completion_wrong r.shared sent_ring sent_list lent'
@@ -135,7 +138,7 @@ module _ (q : SendRing) (ring list : List ℕ) (lent : ℕ) (m : Message) (z : a
     -- THE ECHO: 0, its own cookie, and the message where it was sent from
     pub sent_back : (lent' : ℕ) → m.length ≤ lent'
         → completion_of r done_ring sent_list lent'
-        ≡ record { answer = 0; queue = record { shared = advanced r.shared; shut = r.shut }; opcode = send_to_pf; reading = message_at r.shared.head m.buf m.length m.cookie }
+        ≡ record { answer = all_done; queue = record { shared = advanced r.shared; shut = r.shut }; opcode = send_to_pf; reading = message_at r.shared.head m.buf m.length m.cookie }
     sent_back lent' l =
         let right = rw (← buf_is) at (still_right m.buf m.length lent lent' sent_right l) in
         rw buf_is at (comes_back r done_ring sent_list (send_element m) oldest (send_holds q ring list lent m z eight small) sent_clear refl lent' right refl)
@@ -151,7 +154,7 @@ module _ (q : SendRing) (ring list : List ℕ) (lent : ℕ) (m : Message) (z : a
   at_once none_posted lent' l =
       let p = (send_room q (length ring) (length list) lent m z).lent.is in
       let k = call_keeps q (is_placed q.shared p) ring list (sending lent m) in
-      let b = eq-eqb (answer_to_send q ring list lent m) 0 z in
+      let b = done-is_ok (answer_to_send q ring list lent m) z in
       let r : SendRing = (send_of q ring list lent m).queue in
       let head-same : r.shared.head ≡ q.shared.head = rw b in
       let here : r.shared.head ≡ tail_of q.shared = head-same ∙ rw none_posted (sym (slot_here q.shared.head q.shared.size p.head_below)) in

@@ -1,5 +1,7 @@
 -- A record given back is accepted again, of the same size; a refused call gives back what came.
 -- Assumes nothing.
+use Rattle.rules.proofs.Answers.{done_is, refused_is, refused-is_ok}
+use Rattle.std.specs.Prelude.{is_ok}
 use Prim.Native.Nat.{ℕ}
 use mathlib.Core.Path.{◌≡◌, refl, sym, ◌∙◌}
 use mathlib.Core.Logic.{◌≢◌}
@@ -8,7 +10,7 @@ use mathlib.Core.List.{List, [], ◌∷◌}
 use borrow.Author.Tests.{ne_eqb, not-false, eqb-true, eqb-false}
 use lib.Dec.{eqb}
 use lib.ListN.{length}
-use Rattle.rules.specs.Rules.{◌when◌}
+use Rattle.rules.specs.Rules.{◌when◌, done, Answer}
 use Rattle.rules.proofs.Checks.{passed, by_answer}
 use Rattle.mail_ring.specs.declared.Ring.{Ring}
 use Rattle.mail_ring.specs.Ring.{ring_ok, empty_ring, grown, advanced}
@@ -25,31 +27,31 @@ use Rattle.mail_send.specs.Calls.{Asking, sending, shutting, reading, left}
 use Rattle.mail_send.proofs.Laws.{send_room, shutdown_room, completion_refused, completion_given, completion_waiting}
 use Rattle.mail_send.proofs.Causes.{fresh_answer}
 
-pub fresh_lines : (size : ℕ) → (fresh_of size).answer ≡ 0 → ring_ok (empty_ring size) ≡ true
+pub fresh_lines : (size : ℕ) → (fresh_of size).answer ≡ done → ring_ok (empty_ring size) ≡ true
 fresh_lines size z = not-false _ (passed (1 when not (ring_ok (empty_ring size)) ∷ []) tt (sym (fresh_answer size) ∙ z) 0)
 
 -- a fresh start gives an accepted ring, and it is open
-pub fresh_open : (size : ℕ) → (fresh_of size).answer ≡ 0 → (fresh_of size).queue ≡ empty_send size
+pub fresh_open : (size : ℕ) → (fresh_of size).answer ≡ done → (fresh_of size).queue ≡ empty_send size
 unfolding fresh_of
 fresh_open size z = rw (fresh_lines size z)
 
-pub fresh_keeps : (size : ℕ) → (fresh_of size).answer ≡ 0 → ring_ok (fresh_of size).queue.shared ≡ true
+pub fresh_keeps : (size : ℕ) → (fresh_of size).answer ≡ done → ring_ok (fresh_of size).queue.shared ≡ true
 fresh_keeps size z = rw (fresh_open size z) (fresh_lines size z)
 
 -- ---- refused
 
-pub send_refused_lem : (q : SendRing) (ring list : List ℕ) (lent : ℕ) (m : Message) → answer_to_send q ring list lent m ≢ 0 → Unchanged (answer_to_send q ring list lent m) q.shared ring list (send_element m)
+pub send_refused_lem : (q : SendRing) (ring list : List ℕ) (lent : ℕ) (m : Message) → answer_to_send q ring list lent m ≢ done → Unchanged (answer_to_send q ring list lent m) q.shared ring list (send_element m)
 send_refused_lem q ring list lent m ne = refused _ q.shared ring list (send_element m) ne
 
-module _ (q : SendRing) (ring list : List ℕ) (s : Shutdown) (ne : answer_to_shutdown q ring list s ≢ 0) where
+module _ (q : SendRing) (ring list : List ℕ) (s : Shutdown) (ne : answer_to_shutdown q ring list s ≢ done) where
   pub shutdown_refused : Unchanged (answer_to_shutdown q ring list s) q.shared ring list (shutdown_element s)
   shutdown_refused = refused _ q.shared ring list (shutdown_element s) ne
 
   -- and does not shut the ring
   pub still_open : (shutdown_of q ring list s).queue.shut ≡ q.shut
-  still_open = rw (ne_eqb (answer_to_shutdown q ring list s) 0 ne)
+  still_open = rw (refused-is_ok (answer_to_shutdown q ring list s) ne)
 
-pub completion_refuses : (q : SendRing) (ring list : List ℕ) (lent : ℕ) → completion_answer q ring list lent ≢ 0
+pub completion_refuses : (q : SendRing) (ring list : List ℕ) (lent : ℕ) → completion_answer q ring list lent ≢ done
     → completion_of q ring list lent ≡ record { answer = completion_answer q ring list lent; queue = q; opcode = 0; reading = no_reading }
 completion_refuses q ring list lent ne = sym (completion_refused q ring list lent refl ne)
 
@@ -63,7 +65,7 @@ pub record Kept (q q' : SendRing) : Type 0 where
 
 module _ (q : SendRing) (ok : ring_ok q.shared ≡ true) (ring list : List ℕ) where
   -- a posted element does not change the size
-  size_same : (n : ℕ) → (cond (eqb n 0) (grown q.shared) q.shared).size ≡ q.shared.size
+  size_same : (n : Answer) → (cond (is_ok n) (grown q.shared) q.shared).size ≡ q.shared.size
   size_same n = by_answer (λ (r : Ring). r.size ≡ q.shared.size) n (grown q.shared) q.shared (λ z. refl) refl
 
   pub call_keeps : (a : Asking) → Kept q (left q ring list a)
@@ -79,11 +81,11 @@ module _ (q : SendRing) (ok : ring_ok q.shared ≡ true) (ring list : List ℕ) 
         same_size = size_same (answer_to_shutdown q ring list s);
         stays_shut = λ p. by_answer (λ (b : Bool). b ≡ true) (answer_to_shutdown q ring list s) true q.shut (λ z. refl) p;
       }
-  call_keeps (reading lent) = go (eqb (completion_answer q ring list lent) 0) refl
+  call_keeps (reading lent) = go (is_ok (completion_answer q ring list lent)) refl
     where
-      go : (b : Bool) → eqb (completion_answer q ring list lent) 0 ≡ b → Kept q (completion_of q ring list lent).queue
+      go : (b : Bool) → is_ok (completion_answer q ring list lent) ≡ b → Kept q (completion_of q ring list lent).queue
       go true e =
-          let z = eqb-true _ _ e in
+          let z = done_is _ e in
           rw (completion_given q ring list lent z)
           (record { ok = is_placed (advanced q.shared) (advanced_placed q.shared (completion_waiting q ring list lent z).is); same_size = refl; stays_shut = λ s. s })
-      go false e = rw (completion_refuses q ring list lent (eqb-false _ _ e)) (record { ok = ok; same_size = refl; stays_shut = λ s. s })
+      go false e = rw (completion_refuses q ring list lent (refused_is _ e)) (record { ok = ok; same_size = refl; stays_shut = λ s. s })

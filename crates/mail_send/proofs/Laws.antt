@@ -1,5 +1,7 @@
 -- What an accepted call was lent and had room for; and what a completion gives, refused or not.
 -- Assumes nothing.
+use Rattle.rules.proofs.Answers.{done-is_ok, refused-is_ok}
+use Rattle.rules.specs.Rules.{done, Answer}
 use Prim.Native.Nat.{ℕ, ◌≤◌}
 use mathlib.Core.Path.{◌≡◌, sym}
 use mathlib.Core.Logic.{◌≢◌}
@@ -21,7 +23,7 @@ use Rattle.mail_send.specs.Sending.{send_checks, send_answer, shutdown_checks, s
 
 -- ---- posting
 
-module _ (q : SendRing) (ring_length list_length lent : ℕ) (m : Message) (z : send_answer q ring_length list_length lent m ≡ 0) where
+module _ (q : SendRing) (ring_length list_length lent : ℕ) (m : Message) (z : send_answer q ring_length list_length lent m ≡ done) where
   pub send_room : Room q.shared ring_length list_length
   unfolding send_answer
   send_room = let n = passed (send_checks q ring_length list_length lent m) tt z in has_room q.shared ring_length list_length (not-false _ (n 0)) (n 4)
@@ -30,7 +32,7 @@ module _ (q : SendRing) (ring_length list_length lent : ℕ) (m : Message) (z : 
   unfolding send_answer
   send_short = short m.buf m.length lent (passed (send_checks q ring_length list_length lent m) tt z 2)
 
-pub shutdown_room : (q : SendRing) (ring_length list_length : ℕ) → shutdown_answer q ring_length list_length ≡ 0 → Room q.shared ring_length list_length
+pub shutdown_room : (q : SendRing) (ring_length list_length : ℕ) → shutdown_answer q ring_length list_length ≡ done → Room q.shared ring_length list_length
 unfolding shutdown_answer
 shutdown_room q ring_length list_length z =
     let n = passed (shutdown_checks q ring_length list_length) tt z in has_room q.shared ring_length list_length (not-false _ (n 0)) (n 2)
@@ -38,14 +40,14 @@ shutdown_room q ring_length list_length z =
 -- ---- completions
 
 module _ (q : SendRing) (ring list : List ℕ) (lent : ℕ) where
-  pub completion_refused : {a : ℕ} → a ≡ completion_answer q ring list lent → a ≢ 0 → record { answer = a; queue = q; opcode = 0; reading = no_reading } ≡ completion_of q ring list lent
+  pub completion_refused : {a : Answer} → a ≡ completion_answer q ring list lent → a ≢ done → record { answer = a; queue = q; opcode = 0; reading = no_reading } ≡ completion_of q ring list lent
   unfolding completion_of
-  completion_refused {a} e ne = rw (sym e, ne_eqb a 0 ne)
+  completion_refused {a} e ne = rw (sym e, refused-is_ok a ne)
 
-  module _ (z : completion_answer q ring list lent ≡ 0) where
-    pub completion_given : completion_of q ring list lent ≡ record { answer = 0; queue = record { shared = advanced q.shared; shut = q.shut }; opcode = (completed q ring list lent).opcode; reading = reading_of q.shared.head (completed q ring list lent) }
+  module _ (z : completion_answer q ring list lent ≡ done) where
+    pub completion_given : completion_of q ring list lent ≡ record { answer = done; queue = record { shared = advanced q.shared; shut = q.shut }; opcode = (completed q ring list lent).opcode; reading = reading_of q.shared.head (completed q ring list lent) }
     unfolding completion_of
-    completion_given = rw (eq-eqb _ 0 z)
+    completion_given = rw (done-is_ok _ z)
 
     pub completion_seen : (look_of q.shared ring list).element ≡ completed q ring list lent
     unfolding completion_answer

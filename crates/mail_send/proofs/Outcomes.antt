@@ -1,11 +1,13 @@
 -- The calls' statements fix their outcomes: any two that meet one are equal.
 -- Assumes nothing.
+use Rattle.rules.specs.Rules.{Answer}
 use Prim.Native.Nat.{ℕ}
 use mathlib.Core.Path.{◌≡◌}
 use mathlib.Core.List.{List}
 use Rattle.rules.specs.Outcomes.{Fixes}
 use Rattle.rules.proofs.Outcomes.{alike, equation}
-use Rattle.ring.specs.declared.Asked.{Asked}
+use Rattle.std.specs.Prelude.{Result}
+use Rattle.rules.specs.declared.Refusal.{Refusal}
 use Rattle.mail_ring.specs.Posting.{ring_after, list_after}
 use Rattle.mail_request.specs.declared.Message.{Message}
 use Rattle.mail_request.specs.declared.Shutdown.{Shutdown}
@@ -18,17 +20,17 @@ use Rattle.mail_send.specs.Sending.{fresh_of, tail_value_of, tail_register_of, a
 pub fresh_alike : (size : ℕ) (a b : Sent) → a ≡ fresh_of size → b ≡ fresh_of size → a ≡ b
 fresh_alike size = alike (equation (fresh_of size))
 
-pub tail_value_alike : (q : SendRing) (a b : Asked) → a ≡ tail_value_of q → b ≡ tail_value_of q → a ≡ b
+pub tail_value_alike : (q : SendRing) (a b : Result ℕ Refusal) → a ≡ tail_value_of q → b ≡ tail_value_of q → a ≡ b
 tail_value_alike q = alike (equation (tail_value_of q))
 
-pub tail_register_alike : (q : SendRing) (a b : Asked) → a ≡ tail_register_of q → b ≡ tail_register_of q → a ≡ b
+pub tail_register_alike : (q : SendRing) (a b : Result ℕ Refusal) → a ≡ tail_register_of q → b ≡ tail_register_of q → a ≡ b
 tail_register_alike q = alike (equation (tail_register_of q))
 
 pub completion_alike : (q : SendRing) (ring list : List ℕ) (lent : ℕ) (a b : Completion) → a ≡ completion_of q ring list lent → b ≡ completion_of q ring list lent → a ≡ b
 completion_alike q ring list lent = alike (equation (completion_of q ring list lent))
 
 module _ (q : SendRing) (ring list : List ℕ) (lent : ℕ) (m : Message) where
-  abbrev answer : ℕ
+  abbrev answer : Answer
   answer = answer_to_send q ring list lent m
 
   send_fixes : Fixes (SendMeets q ring list lent m) (record { result = send_of q ring list lent m; ring = ring_after answer q.shared ring list (send_element m); list = list_after answer q.shared ring list (send_element m) })
@@ -38,7 +40,7 @@ module _ (q : SendRing) (ring list : List ℕ) (lent : ℕ) (m : Message) where
   send_alike = alike send_fixes
 
 module _ (q : SendRing) (ring list : List ℕ) (s : Shutdown) where
-  abbrev answered : ℕ
+  abbrev answered : Answer
   answered = answer_to_shutdown q ring list s
 
   shutdown_fixes : Fixes (ShutMeets q ring list s) (record { result = shutdown_of q ring list s; ring = ring_after answered q.shared ring list (shutdown_element s); list = list_after answered q.shared ring list (shutdown_element s) })

@@ -1,5 +1,6 @@
 -- Where the message of a completion lies: nowhere beside a refusal, else in the buffer or in the element.
 -- Assumes nothing.
+use Rattle.rules.specs.Rules.{done}
 use Prim.Native.Nat.{ℕ}
 use mathlib.Core.Path.{◌≡◌}
 use mathlib.Core.Logic.{◌≢◌}
@@ -21,10 +22,10 @@ module _ (q : SendRing) (ring buffer p : Bor (List ℕ)) (list : List ℕ) where
   lent = length buffer.now
 
   module _ (is : PartIs ring buffer (completion_of q ring.now list lent).reading p) where
-    pub refused_empty : completion_answer q ring.now list lent ≢ 0 → p.now ≡ []
+    pub refused_empty : completion_answer q ring.now list lent ≢ done → p.now ≡ []
     refused_empty ne = none_read ring buffer p (rw (completion_refuses q ring.now list lent ne) at is)
 
-    module _ (z : completion_answer q ring.now list lent ≡ 0) where
+    module _ (z : completion_answer q ring.now list lent ≡ done) where
       -- with BUF the first bytes of the buffer
       pub from_buffer : has_buffer (completed q ring.now list lent) ≡ true → InBuffer buffer (completed q ring.now list lent).length p
       unfolding completion_answer

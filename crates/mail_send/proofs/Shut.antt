@@ -1,5 +1,7 @@
 -- After an accepted shutdown every later send is 12 until a fresh start, over any list of calls.
 -- Assumes nothing.
+use Rattle.rules.proofs.Answers.{done-is_ok}
+use Rattle.rules.specs.Rules.{done, answer_at}
 use Prim.Native.Nat.{ℕ, ◌*◌}
 use mathlib.Core.Path.{◌≡◌, refl, ◌∙◌}
 use mathlib.Core.Bool.{true, false≢true}
@@ -29,20 +31,20 @@ module _ (q : SendRing) (ok : ring_ok q.shared ≡ true) (shut : q.shut ≡ true
   unfolding lent_ok
   lends c l = rw (ok, eq-eqb (length c.ring) (32 * q.shared.size) l.ring_long, eq-eqb (length c.list) q.shared.size l.list_long)
 
-  shut_answer : (c : Call) → Lends q.shared.size c → (a : Asking) → is_send a ≡ true → answered q c.ring c.list a ≡ 12
+  shut_answer : (c : Call) → Lends q.shared.size c → (a : Asking) → is_send a ≡ true → answered q c.ring c.list a ≡ answer_at 12
   unfolding send_answer shutdown_answer
   shut_answer c l (sending lent m) s = rw (lends c l, shut)
   shut_answer c l (shutting r) s = rw (lends c l, shut)
   shut_answer c l (reading lent) s = absurd (false≢true s)
 
 -- THE SHUTDOWN: whatever calls come after it, a send among them, lent what the ring's size asks, is answered 12
-pub shut_out : (q : SendRing) (ring list : List ℕ) (s : Shutdown) → answer_to_shutdown q ring list s ≡ 0
+pub shut_out : (q : SendRing) (ring list : List ℕ) (s : Shutdown) → answer_to_shutdown q ring list s ≡ done
     → (cs : List Call) (c : Call) → is_send c.asks ≡ true → Lends q.shared.size c
-    → answered (after_all (shutdown_of q ring list s).queue cs) c.ring c.list c.asks ≡ 12
+    → answered (after_all (shutdown_of q ring list s).queue cs) c.ring c.list c.asks ≡ answer_at 12
 shut_out q ring list s z cs c is l =
     let ok = is_placed q.shared (shutdown_room q (length ring) (length list) z).lent.is in
     let k = call_keeps q ok ring list (shutting s) in
     let r = calls_keep (shutdown_of q ring list s).queue k.ok cs in
-    let shut : (shutdown_of q ring list s).queue.shut ≡ true = rw (eq-eqb (answer_to_shutdown q ring list s) 0 z) in
+    let shut : (shutdown_of q ring list s).queue.shut ≡ true = rw (done-is_ok (answer_to_shutdown q ring list s) z) in
     let l' : Lends (after_all (shutdown_of q ring list s).queue cs).shared.size c = rw (r.same_size ∙ k.same_size) l in
     shut_answer (after_all (shutdown_of q ring list s).queue cs) r.ok (r.stays_shut shut) c l' c.asks is

@@ -1,5 +1,6 @@
 -- Any list of calls on one send ring, each with what it is lent: between two calls the device may write what it likes, so every call has memory of its own.
 -- Assumes nothing.
+use Rattle.rules.specs.Rules.{Answer}
 use Rattle.std.specs.Prelude.{ℕ, ◌*◌, ◌≡◌, Bool, true, false, List, [], ◌∷◌, length}
 use Rattle.mail_request.specs.declared.Message.{Message}
 use Rattle.mail_request.specs.declared.Shutdown.{Shutdown}
@@ -24,7 +25,7 @@ is_send (shutting s) = true
 is_send (reading lent) = false
 
 -- its answer, and the record after it
-abbrev pub answered : SendRing → List ℕ → List ℕ → Asking → ℕ
+abbrev pub answered : SendRing → List ℕ → List ℕ → Asking → Answer
 answered q ring list (sending lent m) = answer_to_send q ring list lent m
 answered q ring list (shutting s) = answer_to_shutdown q ring list s
 answered q ring list (reading lent) = completion_answer q ring list lent

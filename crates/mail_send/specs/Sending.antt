@@ -1,9 +1,10 @@
 -- The send ring (02, "The mailbox"): its record, and each call's checks in their order, its result, and the lent memory after it.
 -- Assumes nothing.
-use Rattle.std.specs.Prelude.{ℕ, ◌≡◌, true, false, not, ◌&&◌, cond, List, [], ◌∷◌, ◌++◌, eqb, length}
-use Rattle.rules.specs.Rules.{Check, ◌when◌, answer_of}
+use Rattle.rules.specs.declared.Refusal.{Refusal}
+use Rattle.rules.specs.declared.Refusal.TheVariants.{WrongRecord}
+use Rattle.std.specs.Prelude.{ℕ, ◌≡◌, true, false, not, ◌&&◌, cond, List, [], ◌∷◌, ◌++◌, eqb, length, Result, is_ok, Err}
+use Rattle.rules.specs.Rules.{Check, ◌when◌, answer_of, done, Answer}
 use Rattle.rules.specs.Address.{address_wrong}
-use Rattle.ring.specs.declared.Asked.{Asked}
 use Rattle.ring.specs.Queue.{asked_of}
 use Rattle.element.specs.declared.Element.{Element}
 use Rattle.mail_ring.specs.Ring.{ring_ok, lent_ok, empty_ring, tail_of, is_full, advanced}
@@ -24,13 +25,13 @@ empty_send size = record { shared = empty_ring size; shut = false }
 
 -- a fresh ring is empty and open; outside the size's line, 1 and an all-zero record
 unfoldable pub fresh_of : ℕ → Sent
-fresh_of size = cond (ring_ok (empty_ring size)) (record { answer = 0; queue = empty_send size }) (record { answer = 1; queue = empty_send 0 })
+fresh_of size = cond (ring_ok (empty_ring size)) (record { answer = done; queue = empty_send size }) (record { answer = Err WrongRecord; queue = empty_send 0 })
 
 -- the tail value, and VF_ATQT
-abbrev pub tail_value_of : SendRing → Asked
+abbrev pub tail_value_of : SendRing → Result ℕ Refusal
 tail_value_of q = asked_of (ring_ok q.shared) (tail_of q.shared)
 
-abbrev pub tail_register_of : SendRing → Asked
+abbrev pub tail_register_of : SendRing → Result ℕ Refusal
 tail_register_of q = asked_of (ring_ok q.shared) 0x8400
 
 -- ---- Send to PF
@@ -45,11 +46,11 @@ send_checks q ring_length list_length lent m =
     ∷ 3 when is_full q.shared
     ∷ []
 
-unfoldable pub send_answer : SendRing → ℕ → ℕ → ℕ → Message → ℕ
+unfoldable pub send_answer : SendRing → ℕ → ℕ → ℕ → Message → Answer
 send_answer q ring_length list_length lent m = answer_of (send_checks q ring_length list_length lent m)
 
 module _ (q : SendRing) (ring list : List ℕ) (lent : ℕ) (m : Message) where
-  abbrev pub answer_to_send : ℕ
+  abbrev pub answer_to_send : Answer
   answer_to_send = send_answer q (length ring) (length list) lent m
 
   abbrev pub send_of : Sent
@@ -67,11 +68,11 @@ module _ (q : SendRing) (ring list : List ℕ) (lent : ℕ) (m : Message) where
 abbrev pub shutdown_checks : SendRing → ℕ → ℕ → List Check
 shutdown_checks q ring_length list_length = 1 when not (lent_ok q.shared ring_length list_length) ∷ 12 when q.shut ∷ 3 when is_full q.shared ∷ []
 
-unfoldable pub shutdown_answer : SendRing → ℕ → ℕ → ℕ
+unfoldable pub shutdown_answer : SendRing → ℕ → ℕ → Answer
 shutdown_answer q ring_length list_length = answer_of (shutdown_checks q ring_length list_length)
 
 module _ (q : SendRing) (ring list : List ℕ) (s : Shutdown) where
-  abbrev pub answer_to_shutdown : ℕ
+  abbrev pub answer_to_shutdown : Answer
   answer_to_shutdown = shutdown_answer q (length ring) (length list)
 
   -- accepted, it shuts the ring
@@ -79,7 +80,7 @@ module _ (q : SendRing) (ring list : List ℕ) (s : Shutdown) where
   shutdown_of =
       record {
         answer = answer_to_shutdown;
-        queue = record { shared = record_after answer_to_shutdown q.shared ring list (shutdown_element s); shut = cond (eqb answer_to_shutdown 0) true q.shut };
+        queue = record { shared = record_after answer_to_shutdown q.shared ring list (shutdown_element s); shut = cond (is_ok answer_to_shutdown) true q.shut };
       }
 
   -- all that shutdown returns and leaves
@@ -98,15 +99,15 @@ module _ (q : SendRing) (ring list : List ℕ) (lent : ℕ) where
   abbrev pub completion_checks : List Check
   completion_checks = look_checks q.shared ring list ++ element_checks (completion_wrong completed (head_posted q.shared ring list)) completed lent
 
-  unfoldable pub completion_answer : ℕ
+  unfoldable pub completion_answer : Answer
   completion_answer = answer_of completion_checks
 
-  -- where it is 0 what was read, and the element is handed back; zeros beside a refusal
+  -- where it is done what was read, and the element is handed back; zeros beside a refusal
   unfoldable pub completion_of : Completion
   completion_of =
-      cond (eqb completion_answer 0)
+      cond (is_ok completion_answer)
       (record {
-        answer = 0;
+        answer = done;
         queue = record { shared = advanced q.shared; shut = q.shut };
         opcode = completed.opcode;
         reading = reading_of q.shared.head completed;

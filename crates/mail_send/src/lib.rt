@@ -9,42 +9,46 @@ ghost use Rattle.mail_send.specs.Sending.{fresh_of, tail_value_of, tail_register
 use mail_reading::Reading;
 use mail_request::{Message, Shutdown};
 use mail_ring::Ring;
-use ring::Asked;
+use rules::{Answer, Refusal};
 
 // VF_ATQT.
 const TAIL_REGISTER: u16 = 0x8400;
 
 // What both rings have, and whether a shutdown has been posted.
-#[derive(Clone, Copy)]
+#[derive(Clone, Copy, Debug, PartialEq, Eq)]
 pub struct SendRing {
     pub shared: Ring,
     pub shut: bool,
 }
 
-#[derive(Clone, Copy)]
+// Kept: structs by the names that docs/MANUAL.md gives them; fresh and shutdown give a send's.
+// Kept: zeros beside a refusal, since `fresh_of` and `completion_of` say them.
+#[derive(Clone, Copy, Debug, PartialEq, Eq)]
 pub struct Sent {
-    pub answer: u8,
+    pub answer: Answer,
     pub queue: SendRing,
 }
 
 // A completion of a send or of a shutdown, as its opcode says; the message by `mail_reading::part` of its reading.
-#[derive(Clone, Copy)]
+// Kept: the opcode a number, since the device may write any opcode, and a refused completion has 0 (edit refused_opcode).
+#[derive(Clone, Copy, Debug, PartialEq, Eq)]
 pub struct Completion {
-    pub answer: u8,
+    pub answer: Answer,
     pub queue: SendRing,
     pub opcode: u16,
     pub reading: Reading,
 }
 
 impl SendRing {
-    // Answers 0 with an empty ring that is open, or 1 with an all-zero record where the size is outside its line.
+    // An empty ring that is open, or 1 with an all-zero record where the size is outside its line.
+    // Kept: mail_receive has this, the tail calls and the readings too; what they share stands in mail_ring and mail_reading, a trait would have them again.
     pub fn fresh(size: usize) -> Sent
         ensures { result ≡ fresh_of size }
     {
         let shared = Ring::empty(size);
         if shared.ok() {
             Sent {
-                answer: 0,
+                answer: Ok(()),
                 queue: SendRing {
                     shared,
                     shut: false,
@@ -52,7 +56,7 @@ impl SendRing {
             }
         } else {
             Sent {
-                answer: 1,
+                answer: Err(Refusal::WrongRecord),
                 queue: SendRing {
                     shared: Ring::empty(0),
                     shut: false,
@@ -61,71 +65,77 @@ impl SendRing {
         }
     }
 
-    // Answers 0 with the tail value, or 1 with 0 where the record breaks a line.
-    pub fn tail_value(self) -> Asked
+    // The tail value, or 1 where the record breaks a line.
+    pub fn tail_value(self) -> Result<usize, Refusal>
         ensures { result ≡ tail_value_of self }
     {
         self.shared.tail_value()
     }
 
-    // Answers 0 with the register's offset, or 1 with 0 where the record breaks a line.
-    pub fn tail_register(self) -> Asked
+    // The register's offset, or 1 where the record breaks a line.
+    pub fn tail_register(self) -> Result<usize, Refusal>
         ensures { result ≡ tail_register_of self }
     {
         self.shared.tail_register(TAIL_REGISTER)
     }
 
+    // Kept: ring, list and buffer, and their lengths, one by one here and in each call, as mail_ring has them (`lent_ok`).
     fn send_answer(
         self,
         ring_length: usize,
         list_length: usize,
         lent: usize,
         message: Message,
-    ) -> u8
+    ) -> Answer
         ensures { result ≡ send_answer self ring_length list_length lent message }
     {
         if !self.shared.lent_ok(ring_length, list_length) {
-            return 1;
+            return Err(Refusal::WrongRecord);
         }
         if self.shut {
-            return 12;
+            return Err(Refusal::AfterShutdown);
         }
         if mail_request::length_wrong(message.buf, message.length, lent) {
-            return 11;
+            return Err(Refusal::WrongLength);
         }
         if message.buf & mail_request::address_wrong(message.address, message.length) {
-            return 2;
+            return Err(Refusal::WrongAddress);
         }
-        if self.shared.full() { 3 } else { 0 }
+        if self.shared.full() {
+            return Err(Refusal::NoRoom);
+        }
+        Ok(())
     }
 
-    fn shutdown_answer(self, ring_length: usize, list_length: usize) -> u8
+    fn shutdown_answer(self, ring_length: usize, list_length: usize) -> Answer
         ensures { result ≡ shutdown_answer self ring_length list_length }
     {
         if !self.shared.lent_ok(ring_length, list_length) {
-            return 1;
+            return Err(Refusal::WrongRecord);
         }
         if self.shut {
-            return 12;
+            return Err(Refusal::AfterShutdown);
         }
-        if self.shared.full() { 3 } else { 0 }
+        if self.shared.full() {
+            return Err(Refusal::NoRoom);
+        }
+        Ok(())
     }
 
-    // Send to PF. Answers 1, 12, 11, 2 or 3 in this order, or 0 with the element posted; a refusal changes nothing.
+    // Send to PF. Refused with 1, 12, 11, 2 or 3 in this order, or the element is posted; a refusal changes nothing.
     pub fn send(self, ring: &mut [u8], list: &mut [u32], buffer: &[u8], message: Message) -> Sent
         ensures { SentAs self ring.old list.old (length buffer.now) message result ring.new list.new }
     {
-        let answer = self.send_answer(ring.len(), list.len(), buffer.len(), message);
-        if answer != 0 {
+        if let Err(refusal) = self.send_answer(ring.len(), list.len(), buffer.len(), message) {
             return Sent {
-                answer,
+                answer: Err(refusal),
                 queue: self,
             };
         }
         let e = mail_request::send_element(message);
         let shared = self.shared.put(ring, list, e);
         Sent {
-            answer,
+            answer: Ok(()),
             queue: SendRing {
                 shared,
                 shut: self.shut,
@@ -133,36 +143,34 @@ impl SendRing {
         }
     }
 
-    // Queue Shutdown. Answers 1, 12 or 3 in this order, or 0 with the element posted and the ring shut.
+    // Queue Shutdown. Refused with 1, 12 or 3 in this order, or the element is posted and the ring shut.
     pub fn shutdown(self, ring: &mut [u8], list: &mut [u32], request: Shutdown) -> Sent
         ensures { ShutAs self ring.old list.old request result ring.new list.new }
     {
-        let answer = self.shutdown_answer(ring.len(), list.len());
-        if answer != 0 {
+        if let Err(refusal) = self.shutdown_answer(ring.len(), list.len()) {
             return Sent {
-                answer,
+                answer: Err(refusal),
                 queue: self,
             };
         }
         let e = mail_request::shutdown_element(request);
         let shared = self.shared.put(ring, list, e);
         Sent {
-            answer,
+            answer: Ok(()),
             queue: SendRing { shared, shut: true },
         }
     }
 
-    // The oldest completion. Answers 1, 4, 5 or 11 in this order, or 0 with its element handed back.
+    // The oldest completion. Refused with 1, 4, 5 or 11 in this order, or its element is handed back.
     pub fn completion(self, ring: &[u8], list: &[u32], buffer: &[u8]) -> Completion
         ensures { result ≡ completion_of self ring.now list.now (length buffer.now) }
     {
         let seen = self.shared.look(ring, list);
         let e = seen.element;
         let wrong = mail_reading::completion_wrong(e, seen.posted);
-        let answer = mail_reading::answer(seen.answer, wrong, e, buffer.len());
-        if answer != 0 {
+        if let Err(refusal) = mail_reading::answer(seen.answer, wrong, e, buffer.len()) {
             return Completion {
-                answer,
+                answer: Err(refusal),
                 queue: self,
                 opcode: 0,
                 reading: mail_reading::no_reading(),
@@ -170,7 +178,7 @@ impl SendRing {
         }
         let reading = mail_reading::reading_of(self.shared.head, e);
         Completion {
-            answer,
+            answer: Ok(()),
             queue: SendRing {
                 shared: self.shared.advanced(),
                 shut: self.shut,

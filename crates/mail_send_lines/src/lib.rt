@@ -3,169 +3,133 @@
 
 use command::Command;
 use mail_request::{Message, Shutdown};
-use mail_rows::{
-    Mailed, Side, asked, begun, cookie_of, fresh_row, ring_of, ring_row, sums, with, with_reading,
-};
-use mail_send::{Completion, SendRing, Sent};
-use script::{
-    ELEMENTS, Given, MAIL_BUFFER, MAIL_RING, lent_bytes, lent_words, no_row, poke_byte, poke_word,
-};
+use mail_ring::Ring;
+use mail_rows::{MailMemory, begun, fresh_row, ring_of, ring_row, with_reading};
+use mail_send::{SendRing, Sent};
+use parts::first;
+use script::{MAIL_BUFFER, Numbers, Row, asked_row, poke_from};
 
-fn queue(side: Side) -> SendRing {
-    let shared = side.shared;
-    SendRing {
-        shared,
-        shut: side.shut,
-    }
+// The send ring and its memory.
+#[derive(Drop)]
+pub struct SendSide {
+    queue: SendRing,
+    memory: MailMemory,
 }
 
-// The record and the lent lengths that a line hands in.
-fn handed(given: Given) -> Side {
-    Side {
-        shared: ring_of(given),
-        shut: given.n3 == 1,
-        ring: given.n4 as usize,
-        list: given.n5 as usize,
-    }
-}
-
-fn fresh(given: Given, side: Side) -> Mailed {
-    let fresh = SendRing::fresh(given.n0 as usize);
-    let queue = fresh.queue;
-    let shared = queue.shared;
-    Mailed {
-        side: begun(fresh.answer, with(side, shared, queue.shut)),
-        row: fresh_row(fresh.answer, shared).and(&[queue.shut as u64]),
-    }
-}
-
-fn message(given: Given) -> Message {
+fn message(numbers: &Numbers) -> Message {
     Message {
-        buf: given.n0 == 1,
-        length: given.n1 as usize,
-        address: given.n2,
-        si: given.n4 == 1,
-        ei: given.n5 == 1,
-        fe: given.n6 == 1,
-        cookie: cookie_of(given.n7),
+        buf: numbers[0] == 1,
+        length: numbers[1] as usize,
+        address: numbers[2],
+        si: numbers[4] == 1,
+        ei: numbers[5] == 1,
+        fe: numbers[6] == 1,
+        cookie: numbers[7].to_le_bytes(),
     }
 }
 
-fn request(given: Given) -> Shutdown {
+fn request(numbers: &Numbers) -> Shutdown {
     Shutdown {
-        unloading: given.n0 == 1,
-        si: given.n1 == 1,
-        ei: given.n2 == 1,
-        fe: given.n3 == 1,
-        cookie: cookie_of(given.n4),
+        unloading: numbers[0] == 1,
+        si: numbers[1] == 1,
+        ei: numbers[2] == 1,
+        fe: numbers[3] == 1,
+        cookie: numbers[4].to_le_bytes(),
     }
 }
 
-fn sent(side: Side, sent: Sent) -> Mailed {
-    let queue = sent.queue;
-    let shared = queue.shared;
-    Mailed {
-        side: with(side, shared, queue.shut),
-        row: ring_row(sent.answer, shared).and(&[queue.shut as u64]),
+impl SendSide {
+    // Nothing asked for yet, and nothing lent.
+    pub fn new() -> SendSide {
+        SendSide {
+            queue: SendRing {
+                shared: Ring::empty(0),
+                shut: false,
+            },
+            memory: mail_rows::memory(),
+        }
     }
-}
 
-fn send(side: Side, given: Given, ring: &mut [u8], list: &mut [u32], buffer: &[u8]) -> Mailed {
-    let queue = queue(side);
-    let r = lent_bytes(ring, side.ring);
-    let l = lent_words(list, side.list);
-    let b = lent_bytes(buffer, given.n3 as usize);
-    sent(
-        side,
-        queue.send(&mut ring[..r], &mut list[..l], &buffer[..b], message(given)),
-    )
-}
-
-fn shutdown(side: Side, given: Given, ring: &mut [u8], list: &mut [u32]) -> Mailed {
-    let queue = queue(side);
-    let r = lent_bytes(ring, side.ring);
-    let l = lent_words(list, side.list);
-    sent(
-        side,
-        queue.shutdown(&mut ring[..r], &mut list[..l], request(given)),
-    )
-}
-
-fn completed(side: Side, completion: Completion, part: &[u8]) -> Mailed {
-    let queue = completion.queue;
-    let shared = queue.shared;
-    let reading = completion.reading;
-    let first = ring_row(completion.answer, shared).and(&[
-        queue.shut as u64,
-        completion.opcode as u64,
-    ]);
-    Mailed {
-        side: with(side, shared, queue.shut),
-        row: with_reading(first, reading, part),
+    fn fresh(&mut self, size: usize) -> Row {
+        let fresh = SendRing::fresh(size);
+        self.queue = fresh.queue;
+        begun(&mut self.memory, fresh.answer, fresh.queue.shared);
+        fresh_row(fresh.answer, fresh.queue.shared).and(&[u64::from(fresh.queue.shut)])
     }
-}
 
-// The oldest completion, with so much of the buffer lent.
-fn done<'a>(side: Side, length: usize, ring: &'a [u8], list: &[u32], buffer: &'a [u8]) -> Mailed {
-    let queue = queue(side);
-    let r = lent_bytes(ring, side.ring);
-    let l = lent_words(list, side.list);
-    let b = lent_bytes(buffer, length);
-    let elements = &ring[..r];
-    let lent = &buffer[..b];
-    let completion = queue.completion(elements, &list[..l], lent);
-    let reading = completion.reading;
-    completed(
-        side,
-        completion,
-        mail_reading::part(elements, lent, reading),
-    )
-}
-
-// The lines that need the record alone; any other leaves it as it is.
-fn record_line(command: Command, given: Given, side: Side) -> Mailed {
-    let queue = queue(side);
-    match command {
-        Command::Mtx => fresh(given, side),
-        Command::MtxSet => Mailed {
-            side: handed(given),
-            row: no_row(),
-        },
-        Command::MtxTail => asked(side, queue.tail_value()),
-        Command::MtxReg => asked(side, queue.tail_register()),
-        _ => Mailed {
-            side,
-            row: no_row(),
-        },
+    // The record and the lent lengths that a line hands in.
+    fn hand_in(&mut self, numbers: &Numbers) {
+        self.queue = SendRing {
+            shared: ring_of(numbers),
+            shut: numbers[3] == 1,
+        };
+        self.memory.lend(numbers[4] as usize, numbers[5] as usize);
     }
-}
 
-// Memory that a line writes.
-fn write(command: Command, given: Given, ring: &mut [u8; MAIL_RING], list: &mut [u32; ELEMENTS]) {
-    let i = given.n0 as usize;
-    let value = given.n1;
-    match command {
-        Command::MtxPoke => poke_byte(ring, i, value),
-        Command::MtxList => poke_word(list, i, value),
-        _ => {}
+    fn sent(&mut self, sent: Sent) -> Row {
+        self.queue = sent.queue;
+        ring_row(sent.answer, sent.queue.shared).and(&[u64::from(sent.queue.shut)])
     }
-}
 
-// The commands of the send ring; any other leaves all as it is.
-pub fn line(
-    command: Command,
-    given: Given,
-    side: Side,
-    ring: &mut [u8; MAIL_RING],
-    list: &mut [u32; ELEMENTS],
-    buffer: &[u8; MAIL_BUFFER],
-) -> Mailed {
-    write(command, given, ring, list);
-    match command {
-        Command::Msend => send(side, given, ring, list, buffer),
-        Command::Mshut => shutdown(side, given, ring, list),
-        Command::Mdone => done(side, given.n0 as usize, ring, list, buffer),
-        Command::MtxSum => sums(side, ring, list),
-        _ => record_line(command, given, side),
+    fn send(&mut self, numbers: &Numbers, buffer: &[u8]) -> Row {
+        let queue = self.queue;
+        let (ring, list) = self.memory.lent_mut();
+        let lent = first(buffer, numbers[3] as usize);
+        let sent = queue.send(ring, list, lent, message(numbers));
+        self.sent(sent)
+    }
+
+    fn shutdown(&mut self, numbers: &Numbers) -> Row {
+        let queue = self.queue;
+        let (ring, list) = self.memory.lent_mut();
+        let sent = queue.shutdown(ring, list, request(numbers));
+        self.sent(sent)
+    }
+
+    // The oldest completion, with so much of the buffer lent.
+    fn done(&mut self, length: usize, buffer: &[u8]) -> Row {
+        let (ring, list) = self.memory.lent();
+        let lent = first(buffer, length);
+        let completion = self.queue.completion(ring, list, lent);
+        let queue = completion.queue;
+        let first = ring_row(completion.answer, queue.shared).and(&[
+            u64::from(queue.shut),
+            u64::from(completion.opcode),
+        ]);
+        let part = mail_reading::part(ring, lent, completion.reading);
+        let row = with_reading(first, completion.reading, part);
+        self.queue = queue;
+        row
+    }
+
+    // What a line that has no answer leaves of the record and the memory.
+    fn set(&mut self, command: Command, numbers: &Numbers) {
+        let i = numbers[0] as usize;
+        match command {
+            Command::MtxSet => self.hand_in(numbers),
+            Command::MtxPoke => poke_from(&mut self.memory.ring, i, numbers[1]),
+            Command::MtxList => poke_from(&mut self.memory.list, i, numbers[1]),
+            _ => {}
+        }
+    }
+
+    // The commands of the send ring; any other leaves all as it is.
+    pub fn line(
+        &mut self,
+        command: Command,
+        numbers: &Numbers,
+        buffer: &[u8; MAIL_BUFFER],
+    ) -> Option<Row> {
+        self.set(command, numbers);
+        match command {
+            Command::Mtx => Some(self.fresh(numbers[0] as usize)),
+            Command::Msend => Some(self.send(numbers, buffer)),
+            Command::Mshut => Some(self.shutdown(numbers)),
+            Command::Mdone => Some(self.done(numbers[0] as usize, buffer)),
+            Command::MtxTail => Some(asked_row(self.queue.tail_value())),
+            Command::MtxReg => Some(asked_row(self.queue.tail_register())),
+            Command::MtxSum => Some(self.memory.sums()),
+            _ => None,
+        }
     }
 }

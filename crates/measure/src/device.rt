@@ -12,12 +12,12 @@ const LAST: u64 = 0x68000300B;
 const LENGTH: u64 = 38;
 
 pub fn set(list: &mut [u64], at: usize, value: u64) {
-    if at < list.len() {
-        list[at] = value;
+    if let Some(place) = list.get_mut(at) {
+        *place = value;
     }
 }
 
-// The slot so many further round the ring.
+// The slot so many further round the ring; 0 where the slot is none, or that is more than once round.
 pub fn further(at: usize, by: usize, size: usize) -> usize {
     if at < size {
         let room = size - at;

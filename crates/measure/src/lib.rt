@@ -15,5 +15,5 @@ pub const MOST_SLOTS: usize = 4096;
 pub fn within(n: u64, most: usize) -> usize
     ensures { result ≤ most }
 {
-    if n < most as u64 { n as usize } else { most }
+    n.min(most as u64) as usize
 }

@@ -1,30 +1,21 @@
 // The pieces of a packet that is sent.
 use crate::device::set;
 
-fn less(a: u64, b: u64) -> u64 {
-    if b < a { a - b } else { 0 }
-}
-
 fn address(i: u64) -> u64 {
     0x100000 | (i % 65536) << 14
-}
-
-// An equal part of the bytes for each piece behind the first.
-fn share(bytes: u64, pieces: u64) -> u64 {
-    if pieces < 2 { 0 } else { bytes / (pieces - 1) }
 }
 
 // The pieces behind the first: equal parts, and in the last one what is left.
 pub fn lay_out(addresses: &mut [u64], lengths: &mut [u64], behind: u64) {
     let n = lengths.len();
-    let each = share(behind, n as u64);
+    let each = behind
+        .checked_div((n as u64).saturating_sub(1))
+        .unwrap_or(0);
     let mut left = behind;
-    let mut i = 1;
-    while i < n {
+    for i in 1..n {
         set(addresses, i, address(i as u64));
         set(lengths, i, if i + 1 < n { each } else { left });
-        left = less(left, each);
-        i += 1;
+        left = left.saturating_sub(each);
     }
 }
 

@@ -1,12 +1,6 @@
 -- What the tests of a send's request say of its numbers.
 -- Assumes nothing.
-use Prim.Native.Nat.{ℕ, ◌+◌, ◌%◌, ◌≤◌}
-use mathlib.Core.Path.{◌≡◌, refl, sym, ◌∙◌}
-use mathlib.Core.Bool.{Bool, true, false, ◌&&◌, true≢false}
-use mathlib.Core.List.{List}
-use native.Mathlib.Omega.{arith}
-use borrow.Author.Tests.{leb-true, eqb-true}
-use lib.Dec.{leb, eqb}
+use Rattle.std.proofs.Common.{ℕ, ◌+◌, ◌%◌, ◌≤◌, ◌≡◌, refl, sym, ◌∙◌, Bool, true, false, ◌&&◌, true≢false, List, arith, leb-true, eqb-true, leb, eqb}
 use Rattle.rules.specs.Rules.{within, in_steps}
 use Rattle.rules.proofs.Tests.{both, by_test, within_is, steps_is}
 use Rattle.segments.specs.Touch.{start_of, total, header_within}

@@ -7,7 +7,7 @@ ghost use Rattle.segments.specs.Touch.{total};
 ghost use Rattle.offload.specs.Offload.{ip_length_ok, l4_length_ok, headers_ok, mss_ok, segmentation_ok, request_ok};
 ghost use Rattle.offload.specs.Steps.{Totalled};
 
-use request::{IPV4_CHECKSUM, IPV6, IpKind, L4Kind, NO_IP, NO_L4, Request, TCP, iipt, l4t};
+use request::{IpKind, L4Kind, Request};
 use segments::header_within;
 
 const MOST_HEADER: u64 = 512;
@@ -30,8 +30,7 @@ fn ip_length_ok(kind: IpKind, n: u64) -> bool
     match kind {
         IpKind::None => n == 0,
         IpKind::Ipv6 => in_fours(40, 508, n),
-        IpKind::Ipv4 => in_fours(20, 60, n),
-        IpKind::Ipv4Checksum => in_fours(20, 60, n),
+        IpKind::Ipv4 | IpKind::Ipv4Checksum => in_fours(20, 60, n),
     }
 }
 
@@ -54,10 +53,8 @@ fn headers_ok(request: Request) -> bool
     let mac = request.mac_length;
     let i = request.ip_length;
     let l = request.l4_length;
-    let ip_type = iipt(ip);
-    let l4_type = l4t(l4);
-    if ip_type == NO_IP {
-        (l4_type == NO_L4) & (mac == 0) & (i == 0) & (l == 0) & !request.segmented
+    if ip == IpKind::None {
+        (l4 == L4Kind::None) & (mac == 0) & (i == 0) & (l == 0) & !request.segmented
     } else {
         (((14 <= mac) & (mac <= 254)) & (mac % 2 == 0)) & ip_length_ok(ip, i) & l4_length_ok(l4, l)
     }
@@ -66,10 +63,9 @@ fn headers_ok(request: Request) -> bool
 fn mss_ok(mss: u64, header: u64, maximum: u64) -> bool
     ensures { result ≡ mss_ok mss header maximum }
 {
-    if maximum < header {
-        false
-    } else {
-        (LEAST_MSS <= mss) & (mss <= maximum - header)
+    match maximum.checked_sub(header) {
+        Some(most) => (LEAST_MSS <= mss) & (mss <= most),
+        None => false,
     }
 }
 
@@ -81,11 +77,9 @@ fn segmentation_ok(lengths: &[u64], maximum: u64, header: u64, request: Request)
     let l4 = request.l4;
     let mss = request.mss;
     let tlen = request.tlen;
-    let ip_type = iipt(ip);
-    let l4_type = l4t(l4);
     if request.segmented {
-        (l4_type == TCP)
-            & ((ip_type == IPV6) | (ip_type == IPV4_CHECKSUM))
+        (l4 == L4Kind::Tcp)
+            & ((ip == IpKind::Ipv6) | (ip == IpKind::Ipv4Checksum))
             & (header <= MOST_HEADER)
             & header_within(lengths, header)
             & ((1 <= tlen) & (tlen <= MOST_TLEN))

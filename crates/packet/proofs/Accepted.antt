@@ -1,11 +1,8 @@
 -- What a caller knows of a send whose own checks have passed.
 -- Assumes nothing.
-use Prim.Native.Nat.{ℕ}
-use mathlib.Core.Path.{◌≡◌}
-use mathlib.Core.Bool.{true}
-use mathlib.Core.List.{List}
+use Rattle.std.proofs.Common.{◌≡◌, ℕ, true, List}
 use borrow.Author.Tests.{not-false}
-use Rattle.rules.specs.Rules.{answer_of}
+use Rattle.rules.specs.Rules.{done, answer_of}
 use Rattle.rules.proofs.Checks.{passed}
 use Rattle.request.specs.declared.Request.{Request}
 use Rattle.pieces.specs.Pieces.{pieces_ok, addresses_ok}
@@ -22,12 +19,12 @@ module _ (addresses lengths : List ℕ) (maximum : ℕ) (q : Request) where
     pub addresses_right : addresses_ok addresses lengths ≡ true
     pub request : request_ok lengths maximum q ≡ true
 
-  pub passes_all : answer_of (packet_checks addresses lengths maximum q) ≡ 0 → Passed
+  pub passes_all : answer_of (packet_checks addresses lengths maximum q) ≡ done → Passed
   passes_all e =
       let p = passed (packet_checks addresses lengths maximum q) tt e in
       record { pieces = not-false _ (p 0); addresses_right = not-false _ (p 1); request = not-false _ (p 2) }
 
-  pub accepted : answer_of (packet_checks addresses lengths maximum q) ≡ 0 → Accepted addresses lengths maximum q
+  pub accepted : answer_of (packet_checks addresses lengths maximum q) ≡ done → Accepted addresses lengths maximum q
   accepted e =
       let p = passes_all e in
       let c = pieces_are addresses lengths maximum q p.pieces in

@@ -1,10 +1,6 @@
 -- What the tests of 6 and 7 say of a segmented send: its segments can be looked at.
 -- Assumes nothing.
-use Prim.Native.Nat.{ℕ}
-use mathlib.Core.Path.{◌≡◌}
-use mathlib.Core.Bool.{true}
-use mathlib.Core.List.{List}
-use native.Mathlib.Omega.{arith}
+use Rattle.std.proofs.Common.{◌≡◌, ℕ, true, List, arith}
 use Rattle.request.specs.declared.Request.{Request}
 use Rattle.pieces.specs.Pieces.{pieces_ok}
 use Rattle.pieces.proofs.Laws.{pieces_are, pieces_whole}

@@ -9,6 +9,7 @@ ghost use Rattle.packet.specs.Steps.{Segmentable};
 use offload::request_ok;
 use pieces::look;
 use request::Request;
+use rules::{Answer, Refusal};
 use segments::crowded;
 
 // Whether some segment touches more than 8 pieces; a plain send has no segments.
@@ -17,29 +18,27 @@ fn crowds(lengths: &[u64], request: Request) -> bool
     ensures { result ≡ is_over lengths.now request }
 {
     let header = request.mac_length + request.ip_length + request.l4_length;
-    if request.segmented {
-        crowded(lengths, header, request.mss, request.tlen)
-    } else {
-        false
-    }
+    request.segmented && crowded(lengths, header, request.mss, request.tlen)
 }
 
 // Answers 6, 2, 7 or 8, the first whose cause holds, or 0. Any lists and numbers go in.
-pub fn judge(addresses: &[u64], lengths: &[u64], maximum_frame: u64, request: Request) -> u8
+pub fn judge(addresses: &[u64], lengths: &[u64], maximum_frame: u64, request: Request) -> Answer
     ensures { result ≡ answer_of (packet_checks addresses.now lengths.now maximum_frame request) }
 {
-    let p = look(addresses, lengths, maximum_frame, request);
-    if p.ok {
-        if p.addresses_ok {
-            if request_ok(lengths, p.total, maximum_frame, request) {
-                if crowds(lengths, request) { 8 } else { 0 }
-            } else {
-                7
-            }
-        } else {
-            2
-        }
-    } else {
-        6
+    let Some(found) = look(addresses, lengths, maximum_frame, request) else {
+        return Err(Refusal::WrongPieces);
+    };
+    if !found.total_ok {
+        return Err(Refusal::WrongPieces);
     }
+    if !found.addresses_ok {
+        return Err(Refusal::WrongAddress);
+    }
+    if !request_ok(lengths, found.total, maximum_frame, request) {
+        return Err(Refusal::WrongRequest);
+    }
+    if crowds(lengths, request) {
+        return Err(Refusal::Crowded);
+    }
+    Ok(())
 }

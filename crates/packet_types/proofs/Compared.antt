@@ -1,10 +1,7 @@
 -- Entries, compared by tests that antt computes.
 -- Assumes nothing.
-use Prim.Native.Nat.{ℕ}
-use mathlib.Core.Path.{◌≡◌, refl, sym}
-use mathlib.Core.Bool.{Bool, true, false, not, ◌&&◌, cond, false≢true}
-use borrow.Author.Tests.{eqb-true}
-use lib.Dec.{eqb}
+use Rattle.std.proofs.Common.{ℕ, ◌≡◌, refl, sym, Bool, true, false, not, ◌&&◌, cond, eqb-true, eqb}
+use mathlib.Core.Bool.{false≢true}
 use Rattle.rules.proofs.Tests.{both}
 use Rattle.rules.proofs.Matches.{same_number}
 use Rattle.family.specs.declared.Family.{Family}

@@ -1,11 +1,6 @@
 -- The table of the code: one test that antt computes over all of its 256 entries, and what is read off it.
 -- Assumes nothing.
-use Prim.Native.Nat.{ℕ, ◌+◌, ◌<◌}
-use mathlib.Core.Path.{◌≡◌, refl, sym, ap, ◌∙◌}
-use mathlib.Core.Bool.{Bool, true, ◌&&◌, cond}
-use native.Mathlib.Omega.{arith}
-use borrow.Author.Tests.{le-leb}
-use lib.Dec.{eqb}
+use Rattle.std.proofs.Common.{ℕ, ◌+◌, ◌<◌, ◌≡◌, refl, sym, ap, ◌∙◌, Bool, true, ◌&&◌, cond, arith, le-leb, eqb}
 use Rattle.rules.specs.Rules.{within, all_below}
 use Rattle.rules.proofs.Tests.{both, and_both, all_each}
 use Rattle.family.specs.Types.{family_of, family_number}

@@ -1,7 +1,6 @@
 -- The calls' statements fix their outcomes: any two that meet one are equal. The first is of the look-up and of the match alike: they give the same entry.
 -- Assumes nothing.
-use Prim.Native.Nat.{ℕ}
-use mathlib.Core.Path.{◌≡◌}
+use Rattle.std.proofs.Common.{ℕ, ◌≡◌}
 use Rattle.rules.proofs.Outcomes.{alike, equation}
 use Rattle.packet_types.specs.declared.L4.{L4}
 use Rattle.packet_types.specs.declared.Entry.{Entry}

@@ -1,6 +1,6 @@
 -- Each line of the table of counts, computed from the definitions.
 -- Assumes nothing.
-use mathlib.Core.Path.{refl}
+use Rattle.std.proofs.Common.{refl}
 use Rattle.rules.specs.Rules.{all_below}
 use Rattle.slots.specs.Slots.{run}
 use Rattle.receive.specs.Queue as rx

@@ -1,6 +1,6 @@
 -- Each line of the table, computed from the definitions.
 -- Assumes nothing.
-use mathlib.Core.Path.{refl}
+use Rattle.std.proofs.Common.{refl}
 use Rattle.rules.specs.Rules.{all_below}
 use Rattle.family.specs.Types.{family_of}
 use Rattle.packet_types.specs.Table.{entry_of}

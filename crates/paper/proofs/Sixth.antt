@@ -1,6 +1,6 @@
 -- Each line of the table of full packets, computed from the definitions.
 -- Assumes nothing.
-use mathlib.Core.Path.{refl}
+use Rattle.std.proofs.Common.{refl}
 use Rattle.slots.specs.Slots.{run}
 use Rattle.receive.specs.Queue as rx
 use Rattle.scan.specs.Slots.{posted_slots}

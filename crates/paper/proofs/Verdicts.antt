@@ -1,6 +1,6 @@
 -- Each line of the table of verdicts, computed from the definitions.
 -- Assumes nothing.
-use mathlib.Core.Path.{refl}
+use Rattle.std.proofs.Common.{refl}
 use Rattle.family.specs.Types.{family_of}
 use Rattle.packet_types.specs.Table.{entry_of}
 use Rattle.verdict.specs.Verdict.{l3_of, l4_of}

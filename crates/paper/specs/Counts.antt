@@ -1,6 +1,7 @@
 -- Worked examples of the counts (02, "A figure that moves on the console page"), a table of their own: 01 has none of it.
 -- Assumes nothing.
 use Rattle.std.specs.Prelude.{ℕ, ◌-◌, ◌^◌, ◌≡◌, true, false, [], ◌∷◌}
+use Rattle.rules.specs.Rules.{number_of}
 use Rattle.receive.specs.declared.RxQueue.{RxQueue}
 use Rattle.receive.specs.Queue as rx
 use Rattle.receive.specs.Post.{post_answer}
@@ -18,10 +19,10 @@ received posted ever_posted ever_returned = record { shared = counted posted eve
 
 -- what a post and a send of one piece are answered where nothing is posted, and so many slots were
 abbrev pub posted_at : ℕ → ℕ
-posted_at n = post_answer (received 0 n n) 64 32 4096
+posted_at n = number_of (post_answer (received 0 n n) 64 32 4096)
 
 abbrev pub sent_at : ℕ → ℕ → Request → ℕ
-sent_at n length request = send_answer (record { shared = counted 0 n n; frame = 1518 }) 64 32 32 (4096 ∷ []) (length ∷ []) request
+sent_at n length request = number_of (send_answer (record { shared = counted 0 n n; frame = 1518 }) 64 32 32 (4096 ∷ []) (length ∷ []) request)
 
 pub record Counts : Type 0 where
   -- a fresh queue asked for with a wrong number is all zero, its counts too

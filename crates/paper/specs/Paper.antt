@@ -1,7 +1,8 @@
 -- The worked examples of 01 that are marked P ("Examples on both sides"), as one table over the definitions that the contracts cite.
 -- The two data words have the CRC command, bit 6, which Intel's Section 2.2.2.2 asks to be 1.
 -- Assumes nothing.
-use Rattle.std.specs.Prelude.{ℕ, zero, suc, ◌*◌, ◌+◌, ◌^◌, ◌≡◌, Bool, true, false, List, [], ◌∷◌, length, get_or, set, replicate}
+use Rattle.std.specs.Prelude.{ℕ, zero, suc, ◌*◌, ◌+◌, ◌^◌, ◌≡◌, Bool, true, false, List, [], ◌∷◌, length, get_or, set, replicate, Ok}
+use Rattle.rules.specs.Rules.{done, number_of, answer_at}
 use Rattle.family.specs.declared.Family.TheVariants.{Ipv4}
 use Rattle.verdict.specs.declared.Verdict.TheVariants.{Good}
 use Rattle.writeback.specs.WriteBack.{write_back_of}
@@ -42,7 +43,7 @@ tx_fresh = (tx.fresh_of 0 32 1518).queue
 
 -- what a fresh queue of 32 slots answers to a send
 abbrev pub answered : List ℕ → Request → ℕ
-answered lengths request = send_answer tx_fresh 64 32 32 (replicate (length lengths) 4096) lengths request
+answered lengths request = number_of (send_answer tx_fresh 64 32 32 (replicate (length lengths) 4096) lengths request)
 
 -- a 54-byte header alone, then n pieces of 209
 abbrev pub pieces : ℕ → List ℕ
@@ -126,18 +127,18 @@ pub record Paper : Type 0 where
         family = Ipv4;
       }
   -- on, clear, index 3; index 0 with 100, 8,160 and 8,162 microseconds
-  pub on_clear : interrupt_of (timed 3 0) ≡ record { answer = 0; offset = 0x5C00; word = 0x1B }
-  pub on_clear_100 : interrupt_of (timed 0 100) ≡ record { answer = 0; offset = 0x5C00; word = 0x643 }
-  pub on_clear_8160 : interrupt_of (timed 0 8160) ≡ record { answer = 0; offset = 0x5C00; word = 0x1FE03 }
-  pub on_clear_8162 : interrupt_of (timed 0 8162) ≡ record { answer = 9; offset = 0; word = 0 }
+  pub on_clear : interrupt_of (timed 3 0) ≡ record { answer = done; offset = 0x5C00; word = 0x1B }
+  pub on_clear_100 : interrupt_of (timed 0 100) ≡ record { answer = done; offset = 0x5C00; word = 0x643 }
+  pub on_clear_8160 : interrupt_of (timed 0 8160) ≡ record { answer = done; offset = 0x5C00; word = 0x1FE03 }
+  pub on_clear_8162 : interrupt_of (timed 0 8162) ≡ record { answer = answer_at 9; offset = 0; word = 0 }
   -- leave, trigger index 3, index 3
-  pub leave_trigger : interrupt_of leaving ≡ record { answer = 0; offset = 0x5C00; word = 0x8700001C }
+  pub leave_trigger : interrupt_of leaving ≡ record { answer = done; offset = 0x5C00; word = 0x8700001C }
   -- size 32: 31 posts give tail 31, another gives 3
-  pub tail_31 : rx.tail_value_of full.queue ≡ record { answer = 0; value = 31 }
-  pub one_more : (post_of full.queue full.ring full.list 4096).answer ≡ 3
+  pub tail_31 : rx.tail_value_of full.queue ≡ Ok 31
+  pub one_more : number_of (post_of full.queue full.ring full.list 4096).answer ≡ 3
   -- after a two-slot packet take returns 2,148, head 2; one more post gives tail 0
-  pub two_slots : (took.answer ≡ 0) × (took.packet.count ≡ 2) × (took.packet.total ≡ 2148) × (took.queue.shared.head ≡ 2)
-  pub tail_0 : rx.tail_value_of (post after_take).queue ≡ record { answer = 0; value = 0 }
+  pub two_slots : (number_of took.answer ≡ 0) × (took.packet.count ≡ 2) × (took.packet.total ≡ 2148) × (took.queue.shared.head ≡ 2)
+  pub tail_0 : rx.tail_value_of (post after_take).queue ≡ Ok 0
   -- 54-byte header alone, then 14 pieces of 209, MSS 1,460, TLEN 2,926: segment 0 touches 8, segment 1 touches 9, so 8
   pub segment_0 : touched (pieces 14) 54 1460 2926 0 ≡ 8
   pub segment_1 : touched (pieces 14) 54 1460 2926 1 ≡ 9

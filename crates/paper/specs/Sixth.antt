@@ -2,6 +2,7 @@
 -- Assumes nothing.
 use Rattle.std.specs.Prelude.{ℕ, ◌*◌, ◌+◌, ◌^◌, ◌≡◌, List, [], ◌∷◌, ◌++◌, replicate}
 use Rattle.std.proofs.lemmas.List.Edits.{sets}
+use Rattle.rules.specs.Rules.{done, number_of, answer_at}
 use Rattle.writeback.specs.WriteBack.{write_back_of}
 use Rattle.receive.specs.declared.Taken.{Taken}
 use Rattle.receive.specs.Take.{take_of, advanced}
@@ -29,7 +30,7 @@ pub record Sixth : Type 0 where
   -- the branch's packet, on which the queue stuck: five full buffers and an empty sixth with EOP
   pub branch : taking (five_full ++ 3 ∷ [])
       ≡ record {
-        answer = 0;
+        answer = done;
         queue = advanced full.queue 6;
         packet = record {
           count = 6;
@@ -40,12 +41,12 @@ pub record Sixth : Type 0 where
         };
       }
   -- the fifth is looked past: a sixth that is not written yet is 4, and one that is not posted, whatever stands there
-  pub not_written : (taking five_full).answer ≡ 4
-  pub not_posted : (take_of (received 5 5 0) (wrote (five_full ++ 3 ∷ [])) full.list).answer ≡ 4
+  pub not_written : number_of (taking five_full).answer ≡ 4
+  pub not_posted : number_of (take_of (received 5 5 0) (wrote (five_full ++ 3 ∷ [])) full.list).answer ≡ 4
   -- a sixth with data is 5, with EOP or without, and so is an empty one without EOP
-  pub with_data : (taking (five_full ++ (2 ^ 38 + 3) ∷ [])).answer ≡ 5
-  pub with_more : (taking (five_full ++ (2 ^ 38 + 1) ∷ [])).answer ≡ 5
-  pub without_end : (taking (five_full ++ 1 ∷ [])).answer ≡ 5
+  pub with_data : number_of (taking (five_full ++ (2 ^ 38 + 3) ∷ [])).answer ≡ 5
+  pub with_more : number_of (taking (five_full ++ (2 ^ 38 + 1) ∷ [])).answer ≡ 5
+  pub without_end : number_of (taking (five_full ++ 1 ∷ [])).answer ≡ 5
   -- a packet and then six slots that are refused: six times the packets plus six are examined, and no more could be
   pub bound : burst_of full.queue (wrote ((five_full ++ 3 ∷ []) ++ five_full ++ 1 ∷ [])) full.list (replicate 96 7) 32
-      ≡ record { answer = 5; queue = advanced full.queue 6; packets = 1; examined = 12 }
+      ≡ record { answer = answer_at 5; queue = advanced full.queue 6; packets = 1; examined = 12 }

@@ -1,18 +1,22 @@
-// Parts of a text.
+// Parts of a text, and of any memory.
 #![tactic(auto)]
 
 ghost use Rattle.std.specs.Prelude.{◌≡◌, take};
 ghost use Rattle.std.proofs.Math.Seq.{slice};
 
-// The first bytes of a text, so many, or all that there are.
-pub fn first(text: &[u8], count: usize) -> &[u8]
+// The first bytes of a text, or numbers of a memory: so many, or all that there are.
+pub fn first<T>(text: &[T], count: usize) -> &[T]
     ensures { result.now ≡ take count text.now }
 {
-    if count < text.len() {
-        &text[..count]
-    } else {
-        text
-    }
+    &text[..count.min(text.len())]
+}
+
+// The same to be written.
+pub fn first_mut<T>(text: &mut [T], count: usize) -> &mut [T]
+    ensures { result.now ≡ take count text.old }
+{
+    let held = count.min(text.len());
+    &mut text[..held]
 }
 
 // The bytes of a text from one place up to another, as far as there are any.
@@ -20,10 +24,5 @@ pub fn part(text: &[u8], from: usize, to: usize) -> &[u8]
     ensures { result.now ≡ slice from to text.now }
 {
     let held = first(text, to);
-    let long = held.len();
-    if from < long {
-        &held[from..]
-    } else {
-        &held[long..]
-    }
+    &held[from.min(held.len())..]
 }

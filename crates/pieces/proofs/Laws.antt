@@ -1,15 +1,9 @@
 -- What the tests of a send's pieces say of its numbers.
 -- Assumes nothing.
-use Prim.Native.Nat.{ℕ, zero, suc, ◌+◌, ◌*◌, ◌^◌, ◌≤◌, ◌<◌, min}
-use mathlib.Core.Path.{◌≡◌, sym, ap, ◌∙◌}
-use mathlib.Core.Bool.{Bool, true, false, ◌&&◌, and-true, false≢true, true≢false}
-use mathlib.Core.List.{List, [], ◌∷◌}
-use native.Mathlib.Omega.{arith}
-use borrow.Author.Tests.{eqb-true, eqb-false, ltb-false, not-true}
-use lib.Dec.{ltb, eqb}
-use lib.ListN.{length, get_or}
+use Rattle.std.proofs.Common.{Some, None, refl, ℕ, zero, suc, ◌+◌, ◌*◌, ◌^◌, ◌≤◌, ◌<◌, ◌≡◌, sym, ap, ◌∙◌, Bool, true, false, ◌&&◌, true≢false, List, [], ◌∷◌, arith, eqb-true, ltb-false, ltb, eqb, length, get_or}
+use borrow.Author.Tests.{eqb-false, not-true}
 use Rattle.rules.specs.Rules.{within}
-use Rattle.rules.proofs.Tests.{both, by_test, eqb_same, within_is, none, all_each}
+use Rattle.rules.proofs.Tests.{both, by_test, within_is, none, all_each}
 use Rattle.segments.specs.Touch.{start_of, total}
 use Rattle.segments.specs.Steps.{sum_limit}
 use Rattle.segments.proofs.Starts.{start_zero, start_next}
@@ -18,11 +12,6 @@ use Rattle.request.specs.Request.{header_of}
 use Rattle.request.specs.Sound.{most_length}
 use Rattle.pieces.specs.declared.Found.{Found}
 use Rattle.pieces.specs.Pieces.{plain_pieces, most_pieces, most_pieces_of, count_ok, lengths_ok, total_ok, pieces_ok, addresses_ok, found_if, found_of}
-
--- a number below the limit is a sum of numbers exactly if it is the sum of the same, each cut down to the limit
-pub sum_same : (t m i l n : ℕ) {a b c d : ℕ} → t < sum_limit → a ≡ min m sum_limit → b ≡ min i sum_limit → c ≡ min l sum_limit → d ≡ min n sum_limit
-    → eqb t (a + b + c + d) ≡ eqb t (m + i + l + n)
-sum_same t m i l n {a} {b} {c} {d} h p q r s = eqb_same t (a + b + c + d) (m + i + l + n) (λ e. omega arith) (λ e. omega arith)
 
 module _ (lengths : List ℕ) where
   pub lengths_each : lengths_ok lengths ≡ true → (i : ℕ) → i < length lengths → (1 ≤ get_or lengths i 0) × (get_or lengths i 0 ≤ most_length)
@@ -88,23 +77,35 @@ addresses_each addresses lengths e i l =
 
 -- ---- what is found
 
--- a test, and what is known where it passes
-pub record Looked (test : Bool) (addresses lengths : List ℕ) (r : Found) : Type 0 where
-  pub ok_is : r.ok ≡ test
-  pub addresses_is : r.ok ≡ true → r.addresses_ok ≡ addresses_ok addresses lengths
-  pub total_is : r.ok ≡ true → r.total ≡ total lengths
+-- what is known of what is found, where the count and the lengths are right
+pub record Looked (addresses lengths : List ℕ) (maximum : ℕ) (q : Request) (f : Found) : Type 0 where
+  pub pieces_is : f.total_ok ≡ pieces_ok addresses lengths maximum q
+  pub addresses_is : f.addresses_ok ≡ addresses_ok addresses lengths
+  pub total_is : f.total ≡ total lengths
 
-module _ (addresses lengths : List ℕ) {r : Found} where
-  looked : (counted whole : Bool) → r ≡ found_if counted whole addresses lengths → Looked (counted && whole) addresses lengths r
-  looked true whole e =
-      record { ok_is = ap (λ (f : Found). f.ok) e; addresses_is = λ _. ap (λ (f : Found). f.addresses_ok) e; total_is = λ _. ap (λ (f : Found). f.total) e }
-  looked false whole e =
-      let o = ap (λ (f : Found). f.ok) e in
-      record { ok_is = o; addresses_is = λ t. absurd (false≢true (sym o ∙ t)); total_is = λ t. absurd (false≢true (sym o ∙ t)) }
+module _ (addresses lengths : List ℕ) (maximum : ℕ) (q : Request) where
+  looked : {f : Found} (counted : Bool) → count_ok addresses lengths q.segmented && lengths_ok lengths ≡ counted
+      → found_if counted addresses lengths maximum q ≡ Some f → Looked addresses lengths maximum q f
+  unfolding pieces_ok
+  looked {f} true p e =
+      let g : record { total_ok = total_ok (total lengths) maximum q; addresses_ok = addresses_ok addresses lengths; total = total lengths } ≡ f = cc in
+      record {
+        pieces_is = rw p (sym (ap (λ (f : Found). f.total_ok) g));
+        addresses_is = sym (ap (λ (f : Found). f.addresses_ok) g);
+        total_is = sym (ap (λ (f : Found). f.total) g);
+      }
+  looked false p e = absurd (cc)
 
-  pub walked_is : r ≡ found_if (lengths_ok lengths) true addresses lengths → Looked (lengths_ok lengths) addresses lengths r
-  walked_is e = rw (and-true (lengths_ok lengths)) at (looked (lengths_ok lengths) true e)
+  missed : (counted : Bool) → count_ok addresses lengths q.segmented && lengths_ok lengths ≡ counted
+      → found_if counted addresses lengths maximum q ≡ None → pieces_ok addresses lengths maximum q ≡ false
+  unfolding pieces_ok
+  missed true p e = absurd (cc)
+  missed false p e = rw p
 
-  pub found_is : (maximum : ℕ) (q : Request) → r ≡ found_of addresses lengths maximum q → Looked (pieces_ok addresses lengths maximum q) addresses lengths r
-  unfolding pieces_ok found_of
-  found_is maximum q e = looked (count_ok addresses lengths q.segmented && lengths_ok lengths) (total_ok (total lengths) maximum q) e
+  pub found_is : {f : Found} → found_of addresses lengths maximum q ≡ Some f → Looked addresses lengths maximum q f
+  unfolding found_of
+  found_is e = looked (count_ok addresses lengths q.segmented && lengths_ok lengths) refl e
+
+  pub none_is : found_of addresses lengths maximum q ≡ None → pieces_ok addresses lengths maximum q ≡ false
+  unfolding found_of
+  none_is e = missed (count_ok addresses lengths q.segmented && lengths_ok lengths) refl e

@@ -1,25 +1,17 @@
 -- One walk over the pieces: what holds of those passed.
 -- Assumes nothing.
-use Prim.Native.Nat.{ℕ, ◌+◌, ◌*◌, ◌≤◌, ◌<◌}
-use mathlib.Core.Path.{◌≡◌, refl, sym, ◌∙◌}
-use mathlib.Core.Bool.{Bool, true, false, not, ◌&&◌}
-use mathlib.Core.List.{List}
-use native.Mathlib.Omega.{arith}
-use lib.Dec.{eqb}
-use lib.ListN.{length, get_or}
-use borrow.Author.Tests.{eqb-true}
+use Rattle.std.proofs.Common.{Option, Some, ℕ, ◌+◌, ◌*◌, ◌≤◌, ◌<◌, ◌≡◌, refl, sym, ◌∙◌, Bool, true, false, not, ◌&&◌, List, arith, length, get_or}
 use Rattle.rules.specs.Rules.{within, all_below}
 use Rattle.rules.specs.Address.{address_wrong}
-use Rattle.rules.proofs.Tests.{both, and_both, within_is, all_none, all_more, all_no}
+use Rattle.rules.proofs.Tests.{and_both, within_is, all_none, all_more, all_no}
 use Rattle.segments.specs.Touch.{start_of}
 use Rattle.segments.proofs.Starts.{start_zero, start_step}
+use Rattle.request.specs.declared.Request.{Request}
 use Rattle.request.specs.Sound.{most_length}
 use Rattle.pieces.specs.declared.Found.{Found}
-use Rattle.pieces.specs.Pieces.{most_pieces_of, count_ok, lengths_ok, addresses_ok, found_if}
-use Rattle.pieces.specs.Steps.{Walkable}
-use Rattle.pieces.proofs.Laws.{most_is}
+use Rattle.pieces.specs.Pieces.{lengths_ok, total_ok, addresses_ok, found_if}
 
-abbrev length_at : List ℕ → ℕ → Bool
+abbrev pub length_at : List ℕ → ℕ → Bool
 length_at lengths i = within 1 most_length (get_or lengths i 0)
 
 -- a length that is wrong
@@ -51,14 +43,7 @@ module _ (addresses lengths : List ℕ) where
         small = omega (arith, within_is 1 most_length (get_or lengths i 0) e);
       }
 
-  pub last : {addresses_ok_lem : Bool} {sum : ℕ} → Passed addresses_ok_lem sum (length lengths)
-      → ◌≡◌ {A = Found} (record { ok = true; addresses_ok = addresses_ok_lem; total = sum }) (found_if (lengths_ok lengths) true addresses lengths)
+  pub last : {addresses_ok_lem whole : Bool} {sum : ℕ} (maximum : ℕ) (q : Request) → Passed addresses_ok_lem sum (length lengths) → whole ≡ total_ok sum maximum q
+      → ◌≡◌ {A = Option Found} (Some (record { total_ok = whole; addresses_ok = addresses_ok_lem; total = sum })) (found_if (lengths_ok lengths) addresses lengths maximum q)
   unfolding addresses_ok
-  last p = rw (sym p.right, p.addresses_is, p.sum_is)
-
-  -- the count of the pieces
-  pub walkable : (segmented : Bool) → count_ok addresses lengths segmented ≡ true → Walkable addresses lengths
-  walkable segmented e =
-      let b = both (eqb (length addresses) (length lengths)) (within 1 (most_pieces_of segmented) (length lengths)) e in
-      let w = within_is 1 (most_pieces_of segmented) (length lengths) b.1 in
-      record { paired = omega (arith, eqb-true (length addresses) (length lengths) b.0); few = omega (arith, most_is segmented) }
+  last maximum q p t = rw (sym p.right, t, p.addresses_is, p.sum_is)

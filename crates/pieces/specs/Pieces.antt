@@ -1,6 +1,6 @@
 -- What the pieces of a send must keep (01, "Sending"; 6 and 2 of "Numbers that come back").
 -- Assumes nothing.
-use Rattle.std.specs.Prelude.{ℕ, ◌+◌, Bool, false, not, ◌&&◌, cond, List, eqb, length, get_or}
+use Rattle.std.specs.Prelude.{ℕ, ◌+◌, Bool, not, ◌&&◌, cond, List, Option, Some, None, eqb, length, get_or}
 use Rattle.rules.specs.Rules.{within, all_below}
 use Rattle.rules.specs.Address.{address_wrong}
 use Rattle.segments.specs.Touch.{total}
@@ -50,12 +50,11 @@ addresses_ok addresses lengths = all_below (length lengths) (λ i. not (address_
 -- ---- what one walk finds
 
 -- pieces whose count and lengths are right have addresses and a total to speak of, and the total is right or not
-abbrev pub found_if : Bool → Bool → List ℕ → List ℕ → Found
-found_if counted whole addresses lengths =
+abbrev pub found_if : Bool → List ℕ → List ℕ → ℕ → Request → Option Found
+found_if counted addresses lengths maximum q =
     cond counted
-    (record { ok = whole; addresses_ok = addresses_ok addresses lengths; total = total lengths })
-    (record { ok = false; addresses_ok = false; total = 0 })
+    (Some (record { total_ok = total_ok (total lengths) maximum q; addresses_ok = addresses_ok addresses lengths; total = total lengths }))
+    None
 
-unfoldable pub found_of : List ℕ → List ℕ → ℕ → Request → Found
-found_of addresses lengths maximum q =
-    found_if (count_ok addresses lengths q.segmented && lengths_ok lengths) (total_ok (total lengths) maximum q) addresses lengths
+unfoldable pub found_of : List ℕ → List ℕ → ℕ → Request → Option Found
+found_of addresses lengths maximum q = found_if (count_ok addresses lengths q.segmented && lengths_ok lengths) addresses lengths maximum q

@@ -1,7 +1,7 @@
 // The pieces of a send: the answers 6 and 2, in one walk over them.
 #![tactic(auto)]
 
-ghost use Rattle.std.specs.Prelude.{◌≡◌, true, ◌<◌, min};
+ghost use Rattle.std.specs.Prelude.{◌≡◌, ◌<◌, min};
 ghost use Rattle.segments.specs.Steps.{sum_limit};
 ghost use Rattle.pieces.specs.Pieces.{most_pieces_of, lengths_ok, total_ok, found_if, found_of};
 ghost use Rattle.pieces.specs.Steps.{Walkable};
@@ -20,10 +20,12 @@ const LEAST_TOTAL: u64 = 17;
 // Above every total that a send can have, and four of it can be added up.
 const CAP: u64 = 0x1_0000_0000;
 
-// What one walk over the pieces finds: no cause of 6; then whether there is none of 2, and the bytes of all pieces.
-#[derive(Clone, Copy)]
+// What one walk over pieces whose count and lengths are right finds: whether their total is right, so that there is no cause of 6; whether
+// there is none of 2; and the bytes of all pieces.
+// Kept: two bools and no list of causes, since 6 comes before 2 and found_of promises both of any such pieces.
+#[derive(Clone, Copy, Debug, PartialEq, Eq)]
 pub struct Found {
-    pub ok: bool,
+    pub total_ok: bool,
     pub addresses_ok: bool,
     pub total: u64,
 }
@@ -39,7 +41,7 @@ fn most_pieces(segmented: bool) -> usize
 fn capped(n: u64) -> u64
     ensures { result ≡ min n sum_limit }
 {
-    if n < CAP { n } else { CAP }
+    n.min(CAP)
 }
 
 // A total below the cap equals a sum of capped numbers exactly if it equals the sum of the numbers.
@@ -59,59 +61,38 @@ fn total_ok(total: u64, maximum: u64, request: Request) -> bool
 
 // ---- 6 and 2 in one walk
 
-// The lengths and the addresses. It ends at the first length that is wrong.
-fn walk(addresses: &[u64], lengths: &[u64]) -> Found
+// The lengths, the addresses and the total. It ends at the first length that is wrong.
+// Kept: two lists side by side, here and in fill and runs, since 01 has a send take the pieces as two slices ("the covered two-slice send").
+fn walk(addresses: &[u64], lengths: &[u64], maximum: u64, request: Request) -> Option<Found>
     requires { Walkable addresses.now lengths.now }
-    ensures { result ≡ found_if (lengths_ok lengths.now) true addresses.now lengths.now }
+    ensures { result ≡ found_if (lengths_ok lengths.now) addresses.now lengths.now maximum request }
 {
     let mut addresses_ok = true;
     let mut total = 0;
-    let mut i = 0;
-    while i < lengths.len() {
-        let l = lengths[i];
-        if (1 <= l) & (l <= MOST_LENGTH) {
-            let wrong = address_wrong(addresses[i], l);
-            addresses_ok = !wrong & addresses_ok;
-            total += l;
+    for (&address, &length) in addresses.iter().zip(lengths) {
+        if (1 <= length) & (length <= MOST_LENGTH) {
+            addresses_ok = !address_wrong(address, length) & addresses_ok;
+            total += length;
         } else {
-            return Found {
-                ok: false,
-                addresses_ok: false,
-                total: 0,
-            };
+            return None;
         }
-        i += 1;
     }
-    Found {
-        ok: true,
+    Some(Found {
+        total_ok: total_ok(total, maximum, request),
         addresses_ok,
         total,
-    }
+    })
 }
 
-// No cause of 6, and then the rest. Any lists and numbers go in.
-pub fn look(addresses: &[u64], lengths: &[u64], maximum: u64, request: Request) -> Found
+// None where the count or a length is wrong, a cause of 6. Any lists and numbers go in.
+pub fn look(addresses: &[u64], lengths: &[u64], maximum: u64, request: Request) -> Option<Found>
     ensures { result ≡ found_of addresses.now lengths.now maximum request }
 {
     let n = lengths.len();
     let most = most_pieces(request.segmented);
     if (addresses.len() == n) & ((1 <= n) & (n <= most)) {
-        let walked = walk(addresses, lengths);
-        if walked.ok {
-            let ok = total_ok(walked.total, maximum, request);
-            Found {
-                ok,
-                addresses_ok: walked.addresses_ok,
-                total: walked.total,
-            }
-        } else {
-            walked
-        }
+        walk(addresses, lengths, maximum, request)
     } else {
-        Found {
-            ok: false,
-            addresses_ok: false,
-            total: 0,
-        }
+        None
     }
 }

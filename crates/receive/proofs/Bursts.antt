@@ -1,17 +1,19 @@
 -- A burst is its takes in turn: what it asks of the code's walks, how many slots it examines, and what it leaves.
 -- Assumes nothing.
+use Rattle.rules.specs.declared.Refusal.TheVariants.{WrongRecord, NotYet, Contradiction, WrongLimit}
+use Rattle.rules.proofs.Answers.{refused_is, done-is_ok, refused-is_ok, done_or_not}
+use Rattle.std.specs.Prelude.{is_ok, Err}
 use Prim.Native.Nat.{ℕ, zero, suc, ◌+◌, ◌*◌, ◌≤◌, ◌<◌}
 use mathlib.Core.Path.{◌≡◌, refl, sym, ap, ◌∙◌}
 use mathlib.Core.Logic.{◌≢◌, ◌⊎◌, inl, inr, ⊎_elim}
 use mathlib.Core.Bool.{Bool, true, false, not, ◌&&◌, cond}
 use mathlib.Core.List.{List, [], ◌∷◌, ◌++◌, map}
-use native.Mathlib.Decide.{ℕ_discrete}
 use native.Mathlib.Omega.{arith}
-use borrow.Author.Tests.{eqb-true, eq-eqb, ne_eqb, not-false}
+use borrow.Author.Tests.{eqb-true, not-false}
 use lib.Dec.{eqb}
 use lib.ListN.{length, get_or, drop}
 use lib.Seq.{get_or-append-add, get_or-drop}
-use Rattle.rules.specs.Rules.{within, ◌when◌}
+use Rattle.rules.specs.Rules.{within, Answer, done, number_of, answer_at}
 use Rattle.rules.proofs.Tests.{both, within_is}
 use Rattle.rules.proofs.Checks.{passed, asked_next, first_pass}
 use Rattle.scan.specs.Scan.{packet_slots}
@@ -28,26 +30,26 @@ use Rattle.receive.specs.Burst.{Made, takes_from, stopped_by, carried, handing, 
 use Rattle.receive.proofs.Laws.{lent}
 use Rattle.receive.proofs.Turns.{as_takes, carried_buffer, carried_keeps, within_limit, up_to_limit, stops_with, stops_again, few}
 
-abbrev one_or_ten : Bool → Bool → ℕ
-one_or_ten a b = cond a 1 (cond b 10 0)
+abbrev one_or_ten : Bool → Bool → Answer
+one_or_ten a b = cond a (answer_at 1) (cond b (answer_at 10) done)
 
 module _ (q : RxQueue) (ring list out : List ℕ) (limit : ℕ) where
   abbrev takes : List Made
   takes = takes_from ring list limit q
 
   -- 1 or 10, and else what stops the takes
-  answer_is : (burst_of q ring list out limit).answer ≡ cond (eqb (refusal q ring list out limit) 0) (stopped_by (made q ring list out limit)) (refusal q ring list out limit)
+  answer_is : (burst_of q ring list out limit).answer ≡ cond (is_ok (refusal q ring list out limit)) (stopped_by (made q ring list out limit)) (refusal q ring list out limit)
   unfolding burst_of refusal_of
-  answer_is = asked_next (refusals q (length ring) (length list) (length out) limit) (stopped_by (made q ring list out limit) when true ∷ []) tt
+  answer_is = asked_next (refusals q (length ring) (length list) (length out) limit) (record { answer = stopped_by (made q ring list out limit); cause = true } ∷ []) tt
 
-  pub refused : refusal q ring list out limit ≢ 0 → BurstUnchanged q ring list out limit
+  pub refused : refusal q ring list out limit ≢ done → BurstUnchanged q ring list out limit
   unfolding burst_of out_after made carried handing told sum
-  refused ne = let e = ne_eqb _ _ ne in record { result_is = rw (answer_is, e); out_same = rw e }
+  refused ne = let e = refused-is_ok _ ne in record { result_is = rw (answer_is, e); out_same = rw e }
 
   -- what holds of no takes and of the takes up to the limit holds of those made
   pub of_made : (P : List Made → Type 0) → P [] → P takes → P (made q ring list out limit)
   unfolding made
-  of_made P none some = go (eqb (refusal q ring list out limit) 0)
+  of_made P none some = go (is_ok (refusal q ring list out limit))
     where
       go : (b : Bool) → P (cond b takes [])
       go true = some
@@ -59,7 +61,7 @@ module _ (q : RxQueue) (ring list out : List ℕ) (limit : ℕ) where
   burst_few =
       of_made (λ ms. sum (map (examined_by ring list) ms) ≤ packet_slots * length (handing ms) + packet_slots)
       (omega arith)
-      (go (eqb (stopped_by takes) 0) (few ring list limit q))
+      (go (is_ok (stopped_by takes)) (few ring list limit q))
     where
       go : (b : Bool) → sum (map (examined_by ring list) takes) ≤ packet_slots * length (handing takes) + cond b 0 packet_slots
           → sum (map (examined_by ring list) takes) ≤ packet_slots * length (handing takes) + packet_slots
@@ -76,23 +78,23 @@ module _ (q : RxQueue) (ring list out : List ℕ) (limit : ℕ) where
   burst_keeps ok = of_made (λ ms. record_ok (carried q ms) ≡ true) ok (carried_keeps ring list limit q ok)
 
   -- a refusal is 1 or 10
-  refuses_with : refusal q ring list out limit ≢ 0 → (refusal q ring list out limit ≡ 1) ⊎ (refusal q ring list out limit ≡ 10)
+  refuses_with : refusal q ring list out limit ≢ done → (refusal q ring list out limit ≡ Err WrongRecord) ⊎ (refusal q ring list out limit ≡ Err WrongLimit)
   unfolding refusal_of
   refuses_with = go (not (lent_ok q (length ring) (length list) && eqb (length out) burst_numbers)) (not (within 1 most_packets limit))
     where
-      go : (a b : Bool) → one_or_ten a b ≢ 0 → (one_or_ten a b ≡ 1) ⊎ (one_or_ten a b ≡ 10)
+      go : (a b : Bool) → one_or_ten a b ≢ done → (one_or_ten a b ≡ Err WrongRecord) ⊎ (one_or_ten a b ≡ Err WrongLimit)
       go true b ne = inl refl
       go false true ne = inr refl
       go false false ne = absurd (ne refl)
 
-  pub refused_as : (n : ℕ) → n ≡ refusal q ring list out limit → n ≢ 0 → BurstAs q ring list out limit (record { answer = n; queue = q; packets = 0; examined = 0 }) out
+  pub refused_as : (n : Answer) → n ≡ refusal q ring list out limit → n ≢ done → BurstAs q ring list out limit (record { answer = n; queue = q; packets = 0; examined = 0 }) out
   refused_as n e ne =
       let r = refused (λ z. ne (e ∙ z)) in
       record { result_is = rw e (sym r.result_is); out_is = sym r.out_same }
 
   -- accepted: none of the two causes holds
-  module _ {n : ℕ} (is : n ≡ refusal q ring list out limit) (none : n ≡ 0) where
-    z : refusal q ring list out limit ≡ 0
+  module _ {n : Answer} (is : n ≡ refusal q ring list out limit) (none : n ≡ done) where
+    z : refusal q ring list out limit ≡ done
     z = sym is ∙ none
 
     passes : (lent_ok q (length ring) (length list) ≡ true) × (eqb (length out) burst_numbers ≡ true)
@@ -109,17 +111,17 @@ module _ (q : RxQueue) (ring list out : List ℕ) (limit : ℕ) where
 
     pub all_made : made q ring list out limit ≡ takes
     unfolding made
-    all_made = rw (eq-eqb _ _ z)
+    all_made = rw (done-is_ok _ z)
 
     carried_is : carried q takes ≡ moved_to q (carried q takes).shared
     carried_is = ap (λ (b : ℕ). record { shared = (carried q takes).shared; buffer = b }) (carried_buffer ring list limit q)
 
     pub burst_is : burst_of q ring list out limit ≡ record { answer = stopped_by takes; queue = carried q takes; packets = length (handing takes); examined = sum (map (examined_by ring list) takes) }
     unfolding burst_of
-    burst_is = rw (answer_is, eq-eqb _ _ z, all_made)
+    burst_is = rw (answer_is, done-is_ok _ z, all_made)
 
     -- a take that stops it answers 4 or 5
-    pub burst_stops : (burst_of q ring list out limit).answer ≢ 0 → ((burst_of q ring list out limit).answer ≡ 4) ⊎ ((burst_of q ring list out limit).answer ≡ 5)
+    pub burst_stops : (burst_of q ring list out limit).answer ≢ done → ((burst_of q ring list out limit).answer ≡ Err NotYet) ⊎ ((burst_of q ring list out limit).answer ≡ Err Contradiction)
     burst_stops = rw burst_is (stops_with ring list limit q passes.0)
 
     -- and what it says is the burst
@@ -135,12 +137,12 @@ module _ (q : RxQueue) (ring list out : List ℕ) (limit : ℕ) where
 
 -- ---- where the limit stopped it
 
-module _ (q : RxQueue) (ring list out : List ℕ) (limit : ℕ) (z : (burst_of q ring list out limit).answer ≡ 0) where
-  accepted : refusal q ring list out limit ≡ 0
+module _ (q : RxQueue) (ring list out : List ℕ) (limit : ℕ) (z : (burst_of q ring list out limit).answer ≡ done) where
+  accepted : refusal q ring list out limit ≡ done
   unfolding burst_of refusal_of
-  accepted = first_pass (refusals q (length ring) (length list) (length out) limit) (stopped_by (made q ring list out limit) when true ∷ []) tt z
+  accepted = first_pass (refusals q (length ring) (length list) (length out) limit) (record { answer = stopped_by (made q ring list out limit); cause = true } ∷ []) tt z
 
-  not_stopped : stopped_by (takes q ring list out limit) ≡ 0
+  not_stopped : stopped_by (takes q ring list out limit) ≡ done
   not_stopped = rw (burst_is q ring list out limit refl accepted) at z
 
   -- as many packets as the limit, and the slots examined are at most six times these
@@ -187,13 +189,13 @@ module _ (q : RxQueue) (ring list out : List ℕ) (limit : ℕ) where
 
 module _ (q : RxQueue) (ring list out : List ℕ) (limit : ℕ) where
   -- after 4, a take answers 4
-  pub four_again : (burst_of q ring list out limit).answer ≡ 4 → (take_of (burst_of q ring list out limit).queue ring list).answer ≡ 4
-  four_again e = go (ℕ_discrete (refusal q ring list out limit) 0)
+  pub four_again : (burst_of q ring list out limit).answer ≡ Err NotYet → (take_of (burst_of q ring list out limit).queue ring list).answer ≡ Err NotYet
+  four_again e = go (done_or_not (refusal q ring list out limit))
     where
-      go : Dec (refusal q ring list out limit ≡ 0) → (take_of (burst_of q ring list out limit).queue ring list).answer ≡ 4
+      go : Dec (refusal q ring list out limit ≡ done) → (take_of (burst_of q ring list out limit).queue ring list).answer ≡ Err NotYet
       go (yes z) =
-          let s : stopped_by (takes q ring list out limit) ≡ 4 = rw (burst_is q ring list out limit refl z) at e in
-          rw (burst_is q ring list out limit refl z) (stops_again ring list limit q (λ x. omega arith) ∙ s)
+          let s : stopped_by (takes q ring list out limit) ≡ Err NotYet = rw (burst_is q ring list out limit refl z) at e in
+          rw (burst_is q ring list out limit refl z) (stops_again ring list limit q (λ x. refused_is _ refl (sym s ∙ x)) ∙ s)
       go (no ne) =
-          let r : refusal q ring list out limit ≡ 4 = sym (ap (λ (b : Burst). b.answer) (refused q ring list out limit ne).result_is) ∙ e in
-          absurd (⊎_elim (λ x. omega arith) (λ x. omega arith) (refuses_with q ring list out limit ne))
+          let r : refusal q ring list out limit ≡ Err NotYet = sym (ap (λ (b : Burst). b.answer) (refused q ring list out limit ne).result_is) ∙ e in
+          absurd (⊎_elim (λ x. omega (arith, ap number_of (sym r ∙ x))) (λ x. omega (arith, ap number_of (sym r ∙ x))) (refuses_with q ring list out limit ne))

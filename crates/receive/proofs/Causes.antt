@@ -1,18 +1,20 @@
--- Exact causes: each number is answered exactly if its cause holds and no earlier one does (`Answers` of rules, both ways).
+-- Exact causes: each answer is given exactly if its cause holds and no earlier one does (`Answers` of rules, both ways).
 -- Assumes nothing.
+use Rattle.rules.specs.declared.Refusal.TheVariants.{WrongRecord}
+use Rattle.std.specs.Prelude.{Err}
 use Prim.Native.Nat.{ℕ}
 use mathlib.Core.Path.{◌≡◌, refl, sym, ◌∙◌}
 use mathlib.Core.Logic.{◌≢◌}
 use mathlib.Core.Bool.{Bool, true, false, not, ◌&&◌, cond}
 use mathlib.Core.List.{List, [], ◌∷◌}
 use lib.ListN.{length}
-use Rattle.rules.specs.Rules.{◌when◌, answer_of, Answers}
+use Rattle.rules.specs.Rules.{Answer, done, ◌when◌, answer_of, Answers}
 use Rattle.rules.proofs.Checks.{has_cause, is_answered, one_check}
 use Rattle.ring.specs.Sizes.{queue_ok}
 use Rattle.ring.proofs.Record.{empty_ok}
 use Rattle.scan.specs.Slots.{posted_slots}
 use Rattle.scan.specs.Scan.{Look, refuse, whole, scan, slot_checks}
-use Rattle.scan.proofs.Scans.{number_of, scan_answer}
+use Rattle.scan.proofs.Scans.{answer_to as answer_seen, scan_answer}
 use Rattle.receive.specs.declared.RxQueue.{RxQueue}
 use Rattle.receive.specs.declared.Fresh.{Fresh}
 use Rattle.receive.specs.Queue.{buffer_ok, record_ok, lent_ok, empty_queue, fresh_of}
@@ -25,7 +27,7 @@ use Rattle.receive.specs.Burst.{burst_checks, burst_of}
 module _ (queue size buffer : ℕ) where
   pub fresh_answer : (fresh_of queue size buffer).answer ≡ answer_of (1 when not (record_ok (empty_queue queue size buffer)) ∷ [])
   unfolding fresh_of
-  fresh_answer = one_check (λ (f : Fresh). f.answer) (record_ok (empty_queue queue size buffer)) (record { answer = 0; queue = empty_queue queue size buffer }) (record { answer = 1; queue = empty_queue 0 0 0 }) refl refl
+  fresh_answer = one_check (λ (f : Fresh). f.answer) (record_ok (empty_queue queue size buffer)) (record { answer = done; queue = empty_queue queue size buffer }) (record { answer = Err WrongRecord; queue = empty_queue 0 0 0 }) refl refl
 
   pub fresh_numbers : record_ok (empty_queue queue size buffer) ≡ queue_ok queue size && buffer_ok buffer
   unfolding record_ok
@@ -33,8 +35,8 @@ module _ (queue size buffer : ℕ) where
 
 -- ---- post: 1, 2, 3
 
-module _ (q : RxQueue) (ring list : List ℕ) (address n : ℕ) where
-  pub post_cause : answer_to q ring list address ≡ n → n ≢ 0 → (i : ℕ) × Answers (post_checks q (length ring) (length list) address) n i
+module _ (q : RxQueue) (ring list : List ℕ) (address : ℕ) (n : Answer) where
+  pub post_cause : answer_to q ring list address ≡ n → n ≢ done → (i : ℕ) × Answers (post_checks q (length ring) (length list) address) n i
   unfolding post_answer
   post_cause e ne = has_cause _ n e ne
 
@@ -49,25 +51,25 @@ module _ (q : RxQueue) (ring list : List ℕ) where
   unfolding take_of look take_by
   take_answer = by (not (lent_ok q (length ring) (length list)))
     where
-      number : (l : Look) → (take_by l q).answer ≡ number_of l
-      number (refuse n) = refl
-      number (whole p) = refl
+      answer : (l : Look) → (take_by l q).answer ≡ answer_seen l
+      answer (refuse n) = refl
+      answer (whole p) = refl
 
-      by : (b : Bool) → (take_by (cond b (refuse 1) (scan q.buffer 0 (posted_slots q.shared ring list))) q).answer ≡ cond b 1 (answer_of (slot_checks q.buffer 0 (posted_slots q.shared ring list)))
+      by : (b : Bool) → (take_by (cond b (refuse WrongRecord) (scan q.buffer 0 (posted_slots q.shared ring list))) q).answer ≡ cond b (Err WrongRecord) (answer_of (slot_checks q.buffer 0 (posted_slots q.shared ring list)))
       by true = refl
-      by false = number (scan q.buffer 0 (posted_slots q.shared ring list)) ∙ scan_answer q.buffer 0 (posted_slots q.shared ring list)
+      by false = answer (scan q.buffer 0 (posted_slots q.shared ring list)) ∙ scan_answer q.buffer 0 (posted_slots q.shared ring list)
 
-  pub take_cause : (n : ℕ) → (take_of q ring list).answer ≡ n → n ≢ 0 → (i : ℕ) × Answers (take_checks q ring list) n i
+  pub take_cause : (n : Answer) → (take_of q ring list).answer ≡ n → n ≢ done → (i : ℕ) × Answers (take_checks q ring list) n i
   take_cause n e ne = has_cause (take_checks q ring list) n (sym take_answer ∙ e) ne
 
-  -- 0 too: a check of EOP that is the first to hold
-  pub take_answered : (n i : ℕ) → Answers (take_checks q ring list) n i → (take_of q ring list).answer ≡ n
+  -- done too: a check of EOP that is the first to hold
+  pub take_answered : (n : Answer) (i : ℕ) → Answers (take_checks q ring list) n i → (take_of q ring list).answer ≡ n
   take_answered n i a = take_answer ∙ is_answered (take_checks q ring list) n i a
 
 -- ---- burst: 1, 10, then what stops its takes
 
-module _ (q : RxQueue) (ring list out : List ℕ) (limit n : ℕ) where
-  pub burst_cause : (burst_of q ring list out limit).answer ≡ n → n ≢ 0 → (i : ℕ) × Answers (burst_checks q ring list out limit) n i
+module _ (q : RxQueue) (ring list out : List ℕ) (limit : ℕ) (n : Answer) where
+  pub burst_cause : (burst_of q ring list out limit).answer ≡ n → n ≢ done → (i : ℕ) × Answers (burst_checks q ring list out limit) n i
   unfolding burst_of
   burst_cause e ne = has_cause (burst_checks q ring list out limit) n e ne
 

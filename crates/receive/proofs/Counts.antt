@@ -1,10 +1,10 @@
 -- What the calls make of the counts. An accepted post adds its slot to those ever posted; a take adds the slots of its packet to those ever
 -- handed back, and a burst those of its takes; a refused call adds none, since its packet has no slots.
 -- Assumes nothing.
+use Rattle.std.specs.Prelude.{is_ok}
 use Prim.Native.Nat.{ℕ}
 use mathlib.Core.Bool.{Bool, true, false, cond}
 use mathlib.Core.List.{List}
-use lib.Dec.{eqb}
 use Rattle.ring.specs.Counts.{Moved}
 use Rattle.ring.proofs.Counts.{stay, by_grown, by_advanced, moved_both}
 use Rattle.scan.specs.Scan.{Look, refuse, whole}
@@ -17,8 +17,8 @@ use Rattle.receive.proofs.Turns.{by_takes}
 use Rattle.receive.proofs.Bursts.{of_made}
 
 module _ (q : RxQueue) (ring list : List ℕ) where
-  pub post_moves : (address : ℕ) → Moved q.shared (post_of q ring list address).queue.shared (cond (eqb (post_of q ring list address).answer 0) 1 0) 0
-  post_moves address = go (eqb (answer_to q ring list address) 0)
+  pub post_moves : (address : ℕ) → Moved q.shared (post_of q ring list address).queue.shared (cond (is_ok (post_of q ring list address).answer) 1 0) 0
+  post_moves address = go (is_ok (answer_to q ring list address))
     where
       go : (b : Bool) → Moved q.shared (cond b (one_more q) q).shared (cond b 1 0) 0
       go true = by_grown q.shared 1

@@ -1,5 +1,6 @@
 -- A record given back by any call on an accepted record is accepted again, and so is a fresh one.
 -- Assumes nothing.
+use Rattle.rules.specs.Rules.{done}
 use Prim.Native.Nat.{ℕ, ◌≤◌}
 use mathlib.Core.Path.{◌≡◌, refl}
 use mathlib.Core.Bool.{true}
@@ -18,7 +19,7 @@ use Rattle.receive.specs.Take.{look, advanced, take_by, take_of}
 use Rattle.receive.proofs.Laws.{fresh_lines, fresh_queue, done_grows}
 use Rattle.receive.proofs.Takes.{look_posted}
 
-pub fresh_keeps : (queue size buffer : ℕ) → (fresh_of queue size buffer).answer ≡ 0 → record_ok (fresh_of queue size buffer).queue ≡ true
+pub fresh_keeps : (queue size buffer : ℕ) → (fresh_of queue size buffer).answer ≡ done → record_ok (fresh_of queue size buffer).queue ≡ true
 fresh_keeps queue size buffer z = let n = fresh_lines queue size buffer z in rw (fresh_queue queue size buffer n) n
 
 module _ (q : RxQueue) (ok : record_ok q ≡ true) where

@@ -1,13 +1,13 @@
 -- What an accepted record and accepted lent slices keep, as facts; and what an accepted post does.
 -- Assumes nothing.
+use Rattle.std.specs.Prelude.{IfOk}
 use Prim.Native.Nat.{ℕ, ◌*◌, ◌^◌, ◌≤◌, ◌<◌}
 use mathlib.Core.Path.{◌≡◌, sym, ◌∙◌}
 use mathlib.Core.Bool.{true, not, ◌&&◌}
 use mathlib.Core.List.{[], ◌∷◌}
-use native.Mathlib.Omega.{arith}
 use borrow.Author.Tests.{eqb-true, not-false}
 use lib.Dec.{eqb}
-use Rattle.rules.specs.Rules.{◌when◌}
+use Rattle.rules.specs.Rules.{◌when◌, done}
 use Rattle.rules.proofs.Tests.{both, steps_is}
 use Rattle.rules.proofs.Checks.{passed}
 use Rattle.ring.specs.Sizes.{tail_bits}
@@ -21,7 +21,7 @@ use Rattle.receive.specs.Post.{post_checks, post_answer}
 use Rattle.receive.proofs.Causes.{fresh_answer}
 
 -- a fresh queue that is given is accepted and empty
-pub fresh_lines : (queue size buffer : ℕ) → (fresh_of queue size buffer).answer ≡ 0 → record_ok (empty_queue queue size buffer) ≡ true
+pub fresh_lines : (queue size buffer : ℕ) → (fresh_of queue size buffer).answer ≡ done → record_ok (empty_queue queue size buffer) ≡ true
 fresh_lines queue size buffer e = not-false _ (passed (1 when not (record_ok (empty_queue queue size buffer)) ∷ []) tt (sym (fresh_answer queue size buffer) ∙ e) 0)
 
 pub fresh_queue : (queue size buffer : ℕ) → record_ok (empty_queue queue size buffer) ≡ true → (fresh_of queue size buffer).queue ≡ empty_queue queue size buffer
@@ -37,8 +37,8 @@ pub kept : (q : RxQueue) → record_ok q ≡ true → Shared q.shared
 kept q e = shared q.shared (lines q e).0
 
 -- the tail value fits its field of 13 bits
-pub tail_value_fits : (q : RxQueue) → (tail_value_of q).value < 2 ^ tail_bits
-tail_value_fits q = asked_below (record_ok q) _ _ (omega arith) (λ e. tail_fits q.shared (kept q e))
+pub tail_value_fits : (q : RxQueue) → IfOk (tail_value_of q) (λ v. v < 2 ^ tail_bits)
+tail_value_fits q = asked_below (record_ok q) _ _ (λ e. tail_fits q.shared (kept q e))
 
 module _ (q : RxQueue) (ring_length list_length : ℕ) (e : lent_ok q ring_length list_length ≡ true) where
   -- the record, and the lengths
@@ -55,11 +55,11 @@ module _ (q : RxQueue) (ring_length list_length : ℕ) (e : lent_ok q ring_lengt
   lent_buffer = (steps_is least_buffer most_buffer buffer_step q.buffer (lines q apart.0).1).least
 
 -- an accepted post was lent what the size asks, and had room
-pub done_lent : (q : RxQueue) (ring_length list_length address : ℕ) → post_answer q ring_length list_length address ≡ 0 → Lent q.shared ring_length list_length
+pub done_lent : (q : RxQueue) (ring_length list_length address : ℕ) → post_answer q ring_length list_length address ≡ done → Lent q.shared ring_length list_length
 unfolding post_answer
 done_lent q ring_length list_length address e = lent q ring_length list_length (not-false _ (passed (post_checks q ring_length list_length address) tt e 0))
 
-pub done_grows : (q : RxQueue) (ring_length list_length address : ℕ) → post_answer q ring_length list_length address ≡ 0 → Grow q.shared 1
+pub done_grows : (q : RxQueue) (ring_length list_length address : ℕ) → post_answer q ring_length list_length address ≡ done → Grow q.shared 1
 unfolding post_answer
 done_grows q ring_length list_length address e =
     grows q.shared 1 (done_lent q ring_length list_length address e).reads.is (passed (post_checks q ring_length list_length address) tt e 2)

@@ -5,7 +5,8 @@ use mathlib.Core.Path.{◌≡◌}
 use mathlib.Core.List.{List}
 use Rattle.rules.specs.Outcomes.{Fixes}
 use Rattle.rules.proofs.Outcomes.{alike, equation}
-use Rattle.ring.specs.declared.Asked.{Asked}
+use Rattle.std.specs.Prelude.{Result}
+use Rattle.rules.specs.declared.Refusal.{Refusal}
 use Rattle.receive.specs.declared.RxQueue.{RxQueue}
 use Rattle.receive.specs.declared.Fresh.{Fresh}
 use Rattle.receive.specs.declared.Taken.{Taken}
@@ -17,10 +18,10 @@ use Rattle.receive.specs.Burst.{burst_of, out_after, BurstOutcome, BurstMeets}
 pub fresh_alike : (queue size buffer : ℕ) (a b : Fresh) → a ≡ fresh_of queue size buffer → b ≡ fresh_of queue size buffer → a ≡ b
 fresh_alike queue size buffer = alike (equation (fresh_of queue size buffer))
 
-pub tail_value_alike : (q : RxQueue) (a b : Asked) → a ≡ tail_value_of q → b ≡ tail_value_of q → a ≡ b
+pub tail_value_alike : (q : RxQueue) (a b : Result ℕ Refusal) → a ≡ tail_value_of q → b ≡ tail_value_of q → a ≡ b
 tail_value_alike q = alike (equation (tail_value_of q))
 
-pub tail_register_alike : (q : RxQueue) (a b : Asked) → a ≡ tail_register_of q → b ≡ tail_register_of q → a ≡ b
+pub tail_register_alike : (q : RxQueue) (a b : Result ℕ Refusal) → a ≡ tail_register_of q → b ≡ tail_register_of q → a ≡ b
 tail_register_alike q = alike (equation (tail_register_of q))
 
 pub take_alike : (q : RxQueue) (ring list : List ℕ) (a b : Taken) → a ≡ take_of q ring list → b ≡ take_of q ring list → a ≡ b

@@ -1,5 +1,8 @@
 -- What a post leaves: one blank slot more behind the posted ones, and every other slot as it was.
 -- Assumes nothing.
+use Rattle.rules.proofs.Answers.{done-is_ok, refused-is_ok}
+use Rattle.rules.specs.Rules.{done}
+use Rattle.std.specs.Prelude.{is_ok}
 use Prim.Native.Nat.{ℕ, ◌*◌, ◌<◌}
 use mathlib.Core.Path.{◌≡◌, refl, ap, ◌∙◌}
 use mathlib.Core.Logic.{◌≢◌}
@@ -7,8 +10,6 @@ use mathlib.Core.Bool.{Bool, true, false, cond}
 use mathlib.Core.List.{List, [], ◌∷◌, ◌++◌}
 use native.Mathlib.Numerals.{add-one}
 use native.Mathlib.Omega.{arith}
-use borrow.Author.Tests.{eq-eqb, ne_eqb}
-use lib.Dec.{eqb}
 use lib.ListN.{length, set}
 use lib.Seq.{get_or-set_same, get_or-set_other}
 use Rattle.ring.specs.Queue.{tail_of}
@@ -43,21 +44,21 @@ module _ (ring list : List ℕ) (tail address : ℕ) where
 -- ---- post
 
 module _ (q : RxQueue) (ring list : List ℕ) (address : ℕ) where
-  pub post_refused : answer_to q ring list address ≢ 0 → Unchanged q ring list address
+  pub post_refused : answer_to q ring list address ≢ done → Unchanged q ring list address
   post_refused ne =
-      let e = ne_eqb (answer_to q ring list address) 0 ne in
+      let e = refused-is_ok (answer_to q ring list address) ne in
       record { queue_same = rw e; ring_same = rw e; list_same = rw e }
 
   -- a post leaves every slot but the one at the tail, and its list entry, as it was
   pub post_leaves : (s : ℕ) → s ≢ tail_of q.shared → slot_in (ring_after q ring list address) (list_after q ring list address) s ≡ slot_in ring list s
-  post_leaves s ne = go (eqb (answer_to q ring list address) 0)
+  post_leaves s ne = go (is_ok (answer_to q ring list address))
     where
       go : (b : Bool) → slot_in (cond b (store_words ring (tail_of q.shared) (blank address)) ring) (cond b (set list (tail_of q.shared) address) list) s ≡ slot_in ring list s
       go true = put_other ring list (tail_of q.shared) address s ne
       go false = refl
 
   -- an accepted one puts a blank slot with its address behind the posted ones, which stay
-  pub post_adds_lem : answer_to q ring list address ≡ 0
+  pub post_adds_lem : answer_to q ring list address ≡ done
       → posted_slots (post_of q ring list address).queue.shared (ring_after q ring list address) (list_after q ring list address)
       ≡ posted_slots q.shared ring list ++ record { address = address; words = blank address } ∷ []
   unfolding posted_slots
@@ -65,7 +66,7 @@ module _ (q : RxQueue) (ring list : List ℕ) (address : ℕ) where
       let l = done_lent q (length ring) (length list) address e in
       let at : ℕ → Slot = slot_in ring list in
       let at' : ℕ → Slot = put ring list (tail_of q.shared) address in
-      rw (eq-eqb (answer_to q ring list address) 0 e, add-one q.shared.posted)
+      rw (done-is_ok (answer_to q ring list address) e, add-one q.shared.posted)
       (run_snoc at' q.shared.size q.shared.head q.shared.posted
       ∙ rw (
         run_outside at at' q.shared.size q.shared.head q.shared.posted q.shared.posted (omega arith) l.reads.is.posted_below (put_other ring list (tail_of q.shared) address),

@@ -1,8 +1,12 @@
 -- What take gives back: zeros beside a refusal, and else exactly the first of the posted slots that make a packet as the device's rules have it.
 -- Assumes nothing.
+use Rattle.rules.specs.declared.Refusal.TheVariants.{WrongRecord}
+use Rattle.std.specs.Prelude.{Err}
+use Rattle.rules.specs.Rules.{done}
+use Rattle.rules.proofs.Answers.{refused_is}
 use Prim.Native.Nat.{ℕ, ◌≤◌}
 use mathlib.Core.Path.{◌≡◌, refl, ap, ◌∙◌}
-use mathlib.Core.Logic.{◌≢◌, ⊎_elim}
+use mathlib.Core.Logic.{◌≢◌}
 use mathlib.Core.Bool.{Bool, true, false, not, cond}
 use mathlib.Core.List.{List, [], ◌++◌}
 use native.Mathlib.Omega.{arith}
@@ -15,7 +19,7 @@ use Rattle.writeback.specs.WriteBack.{write_back_of}
 use Rattle.scan.specs.Slots.{Slot, posted_slots}
 use Rattle.scan.specs.Scan.{Complete, Look, refuse, whole, scan}
 use Rattle.scan.specs.Told.{sum, padded, addresses_of, lengths_of, last_words, seen_of, seen_by}
-use Rattle.scan.proofs.Scans.{has_some, has_few, is_seen, seen_is, refused_with, seen_posted, place_at, place_past}
+use Rattle.scan.proofs.Scans.{has_some, has_few, is_seen, seen_is, seen_posted, place_at, place_past}
 use Rattle.receive.specs.declared.RxQueue.{RxQueue}
 use Rattle.receive.specs.declared.Taken.{Taken}
 use Rattle.receive.specs.Queue.{lent_ok}
@@ -35,12 +39,12 @@ unfolding packet_of padded sum last_words write_back_of family_of l3_of l4_of
 no_slots = refl
 
 module _ (q : RxQueue) (ring list : List ℕ) where
-  -- a take that answers other than 0 returns the record as it came, and zeros
-  pub take_refused : (take_of q ring list).answer ≢ 0 → take_of q ring list ≡ record { answer = (take_of q ring list).answer; queue = q; packet = no_packet }
+  -- a take that refuses returns the record as it came, and zeros
+  pub take_refused : (take_of q ring list).answer ≢ done → take_of q ring list ≡ record { answer = (take_of q ring list).answer; queue = q; packet = no_packet }
   unfolding take_of take_by
   take_refused ne = go (look q ring list) ne
     where
-      go : (l : Look) → (take_by l q).answer ≢ 0 → take_by l q ≡ record { answer = (take_by l q).answer; queue = q; packet = no_packet }
+      go : (l : Look) → (take_by l q).answer ≢ done → take_by l q ≡ record { answer = (take_by l q).answer; queue = q; packet = no_packet }
       go (refuse n) ne = rw no_slots
       go (whole p) ne = absurd (ne refl)
 
@@ -52,7 +56,7 @@ module _ (q : RxQueue) (ring list : List ℕ) where
   unfolding look
   look_posted p = go (not (lent_ok q (length ring) (length list)))
     where
-      go : (b : Bool) → cond b (refuse 1) (scan q.buffer 0 slots) ≡ whole p → length p ≤ q.shared.posted
+      go : (b : Bool) → cond b (refuse WrongRecord) (scan q.buffer 0 slots) ≡ whole p → length p ≤ q.shared.posted
       go true e = let z : ◌≡◌ {A = ℕ} 0 1 = cc in absurd (omega arith)
       go false e = seen_posted q.shared ring list q.buffer 0 p e
 
@@ -71,21 +75,21 @@ module _ (q : RxQueue) (ring list : List ℕ) where
         is = rw e;
       }
 
-  by_look : (a : Bool) (l : Look) → lent_ok q (length ring) (length list) ≡ a → scan q.buffer 0 slots ≡ l → (take_by (cond (not a) (refuse 1) l) q).answer ≡ 0
-      → HandedUp q ring list (take_by (cond (not a) (refuse 1) l) q)
+  by_look : (a : Bool) (l : Look) → lent_ok q (length ring) (length list) ≡ a → scan q.buffer 0 slots ≡ l → (take_by (cond (not a) (refuse WrongRecord) l) q).answer ≡ done
+      → HandedUp q ring list (take_by (cond (not a) (refuse WrongRecord) l) q)
   unfolding take_by
-  by_look false l e h z = let y : ◌≡◌ {A = ℕ} 1 0 = z in absurd (omega arith)
-  by_look true (refuse n) e h z = absurd (⊎_elim (λ f. omega arith) (λ f. omega arith) (refused_with q.buffer 0 slots n h))
+  by_look false l e h z = absurd (refused_is (Err WrongRecord) refl z)
+  by_look true (refuse n) e h z = absurd (refused_is (Err n) refl z)
   by_look true (whole p) e h z = by_scan p e h
 
   -- what take hands up are exactly the slots that it scanned
-  pub hands_up : (take_of q ring list).answer ≡ 0 → HandedUp q ring list (take_of q ring list)
+  pub hands_up : (take_of q ring list).answer ≡ done → HandedUp q ring list (take_of q ring list)
   unfolding take_of look
   hands_up z = by_look (lent_ok q (length ring) (length list)) (scan q.buffer 0 slots) refl refl z
 
   -- and it hands up whenever the posted slots begin with a packet
   pub hands_up_if : (p rest : List Slot) → lent_ok q (length ring) (length list) ≡ true → Complete q.buffer 0 p → posted_slots q.shared ring list ≡ p ++ rest
-      → take_of q ring list ≡ record { answer = 0; queue = advanced q (length p); packet = packet_of p }
+      → take_of q ring list ≡ record { answer = done; queue = advanced q (length p); packet = packet_of p }
   unfolding take_of look take_by
   hands_up_if p rest a c e = rw (a, e, is_seen q.buffer 0 p rest c)
 
@@ -96,8 +100,8 @@ module _ (q : RxQueue) (ring list : List ℕ) where
       let a : t.packet.addresses ≡ padded (addresses_of (take n slots)) = ap (λ (x : Taken). x.packet.addresses) u.is in
       let l : t.packet.lengths ≡ padded (lengths_of (take n slots)) = ap (λ (x : Taken). x.packet.lengths) u.is in
       record {
-        address_at_lem = λ i h. rw a (place_at q.shared ring list (λ (s : Slot). s.address) n u.few u.within i h);
-        length_at = λ i h. rw l (place_at q.shared ring list (λ (s : Slot). length_of s.words) n u.few u.within i h);
+        slot_address = λ i h. rw a (place_at q.shared ring list (λ (s : Slot). s.address) n u.few u.within i h);
+        slot_length = λ i h. rw l (place_at q.shared ring list (λ (s : Slot). length_of s.words) n u.few u.within i h);
         address_past = λ i h. rw a (place_past q.shared ring list (λ (s : Slot). s.address) n u.few u.within i h);
         length_past = λ i h. rw l (place_past q.shared ring list (λ (s : Slot). length_of s.words) n u.few u.within i h);
         total_is = ap (λ (x : Taken). x.packet.total) u.is;

@@ -1,15 +1,17 @@
--- Takes in turn, each on the record that the one before gave back, up to one that answers other than 0: what the walks of the code come to is what these
+-- Takes in turn, each on the record that the one before gave back, up to one that refuses: what the walks of the code come to is what these
 -- come to, and what holds of them all.
 -- Assumes nothing.
+use Rattle.rules.specs.declared.Refusal.TheVariants.{NotYet, Contradiction}
+use Rattle.rules.specs.Rules.{done}
+use Rattle.rules.proofs.Answers.{done_is, refused_is, done-is_ok, refused-is_ok}
+use Rattle.std.specs.Prelude.{is_ok, Err}
 use Prim.Native.Nat.{ℕ, zero, suc, ◌+◌, ◌*◌, ◌≤◌}
 use mathlib.Core.Path.{◌≡◌, refl, sym, ap, ◌∙◌}
-use mathlib.Core.Logic.{◌≢◌, ◌⊎◌}
+use mathlib.Core.Logic.{◌≢◌, ◌⊎◌, inl, inr, ⊎_elim}
 use mathlib.Core.Bool.{Bool, true, false, cond}
 use mathlib.Core.List.{List, [], ◌∷◌, map}
 use native.Mathlib.Nat.{add-zero}
 use native.Mathlib.Omega.{arith}
-use borrow.Author.Tests.{eqb-true, eqb-false, eq-eqb, ne_eqb}
-use lib.Dec.{eqb}
 use lib.ListN.{length}
 use Rattle.scan.specs.Slots.{posted_slots}
 use Rattle.scan.specs.Scan.{packet_slots, examined, Look, refuse, whole, scan}
@@ -69,12 +71,12 @@ module _ (q : RxQueue) (ring list : List ℕ) where
         go (whole p) e = record { answer_same = refl; queue_same = refl; count_same = refl; total_same = refl; examined_same = refl }
 
     -- one that refuses answers 4 or 5
-    answers_with : taken_on.answer ≢ 0 → (taken_on.answer ≡ 4) ⊎ (taken_on.answer ≡ 5)
+    answers_with : taken_on.answer ≢ done → (taken_on.answer ≡ Err NotYet) ⊎ (taken_on.answer ≡ Err Contradiction)
     unfolding take_of take_by
     answers_with = rw as_look (go (scan q.buffer 0 (posted_slots q.shared ring list)) refl)
       where
-        go : (l : Look) → scan q.buffer 0 (posted_slots q.shared ring list) ≡ l → (take_by l q).answer ≢ 0 → ((take_by l q).answer ≡ 4) ⊎ ((take_by l q).answer ≡ 5)
-        go (refuse n) e ne = refused_with q.buffer 0 (posted_slots q.shared ring list) n e
+        go : (l : Look) → scan q.buffer 0 (posted_slots q.shared ring list) ≡ l → (take_by l q).answer ≢ done → ((take_by l q).answer ≡ Err NotYet) ⊎ ((take_by l q).answer ≡ Err Contradiction)
+        go (refuse n) e ne = ⊎_elim (λ x. inl (ap Err x)) (λ x. inr (ap Err x)) (refused_with q.buffer 0 (posted_slots q.shared ring list) n e)
         go (whole p) e ne = absurd (ne refl)
 
     -- the next one is accepted again
@@ -88,7 +90,7 @@ module _ (q : RxQueue) (ring list : List ℕ) where
 
     -- the walks of the code from here, by this take
     opened : (n : ℕ) → polls q.buffer ring list (suc n) q.shared
-        ≡ cond (eqb taken_on.answer 0)
+        ≡ cond (is_ok taken_on.answer)
         (ahead 1 (examined_by ring list made_on) (q.shared.head ∷ taken_on.packet.count ∷ taken_on.packet.total ∷ []) (polls q.buffer ring list n taken_on.queue.shared))
         (stop taken_on.answer taken_on.queue.shared (examined_by ring list made_on))
     unfolding polls
@@ -108,17 +110,17 @@ module _ (ring list : List ℕ) where
   -- what holds of no takes, of a take that hands up before others, and of one that stops them, holds of all takes
   pub by_takes : (P : ℕ → RxQueue → List Made → Type 0)
       → ((q : RxQueue) → P 0 q [])
-      → ((n : ℕ) (q : RxQueue) (ms : List Made) → (taken_on q ring list).answer ≡ 0 → P n (taken_on q ring list).queue ms → P (suc n) q (made_on q ring list ∷ ms))
-      → ((n : ℕ) (q : RxQueue) → (taken_on q ring list).answer ≢ 0 → P (suc n) q (made_on q ring list ∷ []))
+      → ((n : ℕ) (q : RxQueue) (ms : List Made) → (taken_on q ring list).answer ≡ done → P n (taken_on q ring list).queue ms → P (suc n) q (made_on q ring list ∷ ms))
+      → ((n : ℕ) (q : RxQueue) → (taken_on q ring list).answer ≢ done → P (suc n) q (made_on q ring list ∷ []))
       → (n : ℕ) (q : RxQueue) → P n q (takes_from ring list n q)
   unfolding takes_from
   by_takes P none more stops zero q = none q
-  by_takes P none more stops (suc n) q = go (eqb (taken_on q ring list).answer 0) refl (by_takes P none more stops n (taken_on q ring list).queue)
+  by_takes P none more stops (suc n) q = go (is_ok (taken_on q ring list).answer) refl (by_takes P none more stops n (taken_on q ring list).queue)
     where
-      go : (b : Bool) → eqb (taken_on q ring list).answer 0 ≡ b → P n (taken_on q ring list).queue (takes_from ring list n (taken_on q ring list).queue)
+      go : (b : Bool) → is_ok (taken_on q ring list).answer ≡ b → P n (taken_on q ring list).queue (takes_from ring list n (taken_on q ring list).queue)
           → P (suc n) q (made_on q ring list ∷ cond b (takes_from ring list n (taken_on q ring list).queue) [])
-      go true e p = more n q _ (eqb-true _ _ e) p
-      go false e p = stops n q (eqb-false _ _ e)
+      go true e p = more n q _ (done_is _ e) p
+      go false e p = stops n q (refused_is _ e)
 
   -- the walks of the code come to what the takes come to
   abbrev Walks : ℕ → RxQueue → List Made → Type 0
@@ -128,15 +130,15 @@ module _ (ring list : List ℕ) where
   unfolding polls stop stopped_by carried handing told sum
   no_walk q ok = refl
 
-  more_walks : (n : ℕ) (q : RxQueue) (ms : List Made) → (taken_on q ring list).answer ≡ 0 → Walks n (taken_on q ring list).queue ms → Walks (suc n) q (made_on q ring list ∷ ms)
+  more_walks : (n : ℕ) (q : RxQueue) (ms : List Made) → (taken_on q ring list).answer ≡ done → Walks n (taken_on q ring list).queue ms → Walks (suc n) q (made_on q ring list ∷ ms)
   unfolding stopped_by carried handing told sum ahead
   more_walks n q ms z r ok =
       let one : 1 + length (handing ms) ≡ suc (length (handing ms)) = omega arith in
-      rw (opened q ring list ok n, eq-eqb _ _ z, rest_polls q ring list n, r (still_lent q ring list ok), one)
+      rw (opened q ring list ok n, done-is_ok _ z, rest_polls q ring list n, r (still_lent q ring list ok), one)
 
-  last_walk : (n : ℕ) (q : RxQueue) → (taken_on q ring list).answer ≢ 0 → Walks (suc n) q (made_on q ring list ∷ [])
+  last_walk : (n : ℕ) (q : RxQueue) → (taken_on q ring list).answer ≢ done → Walks (suc n) q (made_on q ring list ∷ [])
   unfolding stopped_by carried handing told sum stop
-  last_walk n q ne ok = rw (opened q ring list ok n, ne_eqb _ _ ne, add-zero)
+  last_walk n q ne ok = rw (opened q ring list ok n, refused-is_ok _ ne, add-zero)
 
   pub as_takes : (n : ℕ) (q : RxQueue) → Walks n q (takes_from ring list n q)
   as_takes = by_takes Walks no_walk more_walks last_walk
@@ -165,36 +167,36 @@ module _ (ring list : List ℕ) where
   within_limit =
       by_takes (λ n q ms. length (handing ms) ≤ n)
       (λ q. omega arith)
-      (λ n q ms z r. rw (eq-eqb _ _ z) (omega arith))
-      (λ n q ne. rw (ne_eqb _ _ ne) (omega arith))
+      (λ n q ms z r. rw (done-is_ok _ z) (omega arith))
+      (λ n q ne. rw (refused-is_ok _ ne) (omega arith))
 
-  pub up_to_limit : (n : ℕ) (q : RxQueue) → stopped_by (takes_from ring list n q) ≡ 0 → length (handing (takes_from ring list n q)) ≡ n
+  pub up_to_limit : (n : ℕ) (q : RxQueue) → stopped_by (takes_from ring list n q) ≡ done → length (handing (takes_from ring list n q)) ≡ n
   unfolding stopped_by handing
   up_to_limit =
-      by_takes (λ n q ms. stopped_by ms ≡ 0 → length (handing ms) ≡ n)
+      by_takes (λ n q ms. stopped_by ms ≡ done → length (handing ms) ≡ n)
       (λ q e. refl)
-      (λ n q ms z r e. rw (eq-eqb _ _ z) (ap suc (r (rw (eq-eqb _ _ z) at e))))
-      (λ n q ne e. absurd (ne (rw (ne_eqb _ _ ne) at e)))
+      (λ n q ms z r e. rw (done-is_ok _ z) (ap suc (r (rw (done-is_ok _ z) at e))))
+      (λ n q ne e. absurd (ne (rw (refused-is_ok _ ne) at e)))
 
   -- a take that stops it answers 4 or 5
-  pub stops_with : (n : ℕ) (q : RxQueue) → lent_ok q (length ring) (length list) ≡ true → stopped_by (takes_from ring list n q) ≢ 0
-      → (stopped_by (takes_from ring list n q) ≡ 4) ⊎ (stopped_by (takes_from ring list n q) ≡ 5)
+  pub stops_with : (n : ℕ) (q : RxQueue) → lent_ok q (length ring) (length list) ≡ true → stopped_by (takes_from ring list n q) ≢ done
+      → (stopped_by (takes_from ring list n q) ≡ Err NotYet) ⊎ (stopped_by (takes_from ring list n q) ≡ Err Contradiction)
   unfolding stopped_by
   stops_with =
-      by_takes (λ n q ms. lent_ok q (length ring) (length list) ≡ true → stopped_by ms ≢ 0 → (stopped_by ms ≡ 4) ⊎ (stopped_by ms ≡ 5))
+      by_takes (λ n q ms. lent_ok q (length ring) (length list) ≡ true → stopped_by ms ≢ done → (stopped_by ms ≡ Err NotYet) ⊎ (stopped_by ms ≡ Err Contradiction))
       (λ q ok ne. absurd (ne refl))
-      (λ n q ms z r ok. rw (eq-eqb _ _ z) (r (still_lent q ring list ok)))
-      (λ n q ne ok. rw (ne_eqb _ _ ne) (λ x. answers_with q ring list ok ne))
+      (λ n q ms z r ok. rw (done-is_ok _ z) (r (still_lent q ring list ok)))
+      (λ n q ne ok. rw (refused-is_ok _ ne) (λ x. answers_with q ring list ok ne))
 
   -- and so does a take behind it
-  pub stops_again : (n : ℕ) (q : RxQueue) → stopped_by (takes_from ring list n q) ≢ 0
+  pub stops_again : (n : ℕ) (q : RxQueue) → stopped_by (takes_from ring list n q) ≢ done
       → (take_of (carried q (takes_from ring list n q)) ring list).answer ≡ stopped_by (takes_from ring list n q)
   unfolding stopped_by carried
   stops_again =
-      by_takes (λ n q ms. stopped_by ms ≢ 0 → (take_of (carried q ms) ring list).answer ≡ stopped_by ms)
+      by_takes (λ n q ms. stopped_by ms ≢ done → (take_of (carried q ms) ring list).answer ≡ stopped_by ms)
       (λ q ne. absurd (ne refl))
-      (λ n q ms z r. rw (eq-eqb _ _ z) r)
-      (λ n q ne. rw (ne_eqb _ _ ne) (λ x. ap (λ (r : RxQueue). (take_of r ring list).answer) (ap (λ (y : Taken). y.queue) (take_refused q ring list ne))))
+      (λ n q ms z r. rw (done-is_ok _ z) r)
+      (λ n q ne. rw (refused-is_ok _ ne) (λ x. ap (λ (r : RxQueue). (take_of r ring list).answer) (ap (λ (y : Taken). y.queue) (take_refused q ring list ne))))
 
   -- ---- the slots examined: at most six a take, so six a packet, and six more where a take stopped it
 
@@ -202,10 +204,10 @@ module _ (ring list : List ℕ) where
   take_few m = omega (arith, reads_few m.on.buffer 0 (posted_slots m.on.shared ring list) (omega arith))
 
   pub few : (n : ℕ) (q : RxQueue) → sum (map (examined_by ring list) (takes_from ring list n q))
-      ≤ packet_slots * length (handing (takes_from ring list n q)) + cond (eqb (stopped_by (takes_from ring list n q)) 0) 0 packet_slots
+      ≤ packet_slots * length (handing (takes_from ring list n q)) + cond (is_ok (stopped_by (takes_from ring list n q))) 0 packet_slots
   unfolding stopped_by handing sum
   few =
-      by_takes (λ n q ms. sum (map (examined_by ring list) ms) ≤ packet_slots * length (handing ms) + cond (eqb (stopped_by ms) 0) 0 packet_slots)
+      by_takes (λ n q ms. sum (map (examined_by ring list) ms) ≤ packet_slots * length (handing ms) + cond (is_ok (stopped_by ms)) 0 packet_slots)
       (λ q. omega arith)
-      (λ n q ms z r. rw (eq-eqb _ _ z) (omega (arith, take_few (made_on q ring list))))
-      (λ n q ne. rw (ne_eqb _ _ ne) (rw (ne_eqb _ _ ne) (omega (arith, take_few (made_on q ring list)))))
+      (λ n q ms z r. rw (done-is_ok _ z) (omega (arith, take_few (made_on q ring list))))
+      (λ n q ne. rw (refused-is_ok _ ne) (rw (refused-is_ok _ ne) (omega (arith, take_few (made_on q ring list)))))

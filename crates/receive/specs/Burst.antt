@@ -1,7 +1,7 @@
 -- A burst (02, "Many packets in one poll"): takes one after another on the record carried on, what they come to, and the checks before them.
 -- Assumes nothing.
-use Rattle.std.specs.Prelude.{ℕ, zero, suc, ◌≡◌, true, not, ◌&&◌, cond, List, [], ◌∷◌, ◌++◌, map, eqb, length}
-use Rattle.rules.specs.Rules.{within, Check, ◌when◌, answer_of}
+use Rattle.std.specs.Prelude.{ℕ, zero, suc, ◌≡◌, true, not, ◌&&◌, cond, List, [], ◌∷◌, ◌++◌, map, eqb, length, is_ok}
+use Rattle.rules.specs.Rules.{within, Answer, done, Check, ◌when◌, answer_of}
 use Rattle.scan.specs.Slots.{posted_slots}
 use Rattle.scan.specs.Scan.{examined}
 use Rattle.scan.specs.Told.{sum}
@@ -19,17 +19,17 @@ pub record Made : Type 0 where
   pub on : RxQueue
   pub taken : Taken
 
--- at most n takes on the record carried on, up to one that answers other than 0
+-- at most n takes on the record carried on, up to one that refuses
 unfoldable pub takes_from : List ℕ → List ℕ → ℕ → RxQueue → List Made
 takes_from ring list zero q = []
 takes_from ring list (suc n) q =
     let t = take_of q ring list in
-    record { on = q; taken = t } ∷ cond (eqb t.answer 0) (takes_from ring list n t.queue) []
+    record { on = q; taken = t } ∷ cond (is_ok t.answer) (takes_from ring list n t.queue) []
 
--- the number that stops them, that of the take which answers other than 0; 0 if the limit does
-unfoldable pub stopped_by : List Made → ℕ
-stopped_by [] = 0
-stopped_by (m ∷ ms) = cond (eqb m.taken.answer 0) (stopped_by ms) m.taken.answer
+-- the answer that stops them, that of the take which refuses; done if the limit does
+unfoldable pub stopped_by : List Made → Answer
+stopped_by [] = done
+stopped_by (m ∷ ms) = cond (is_ok m.taken.answer) (stopped_by ms) m.taken.answer
 
 -- the record carried on
 unfoldable pub carried : RxQueue → List Made → RxQueue
@@ -39,7 +39,7 @@ carried q (m ∷ ms) = carried m.taken.queue ms
 -- those that hand up a packet
 unfoldable pub handing : List Made → List Made
 handing [] = []
-handing (m ∷ ms) = cond (eqb m.taken.answer 0) (m ∷ handing ms) (handing ms)
+handing (m ∷ ms) = cond (is_ok m.taken.answer) (m ∷ handing ms) (handing ms)
 
 -- a packet is told by its first slot, which is head before its take, its slot count and its total length
 unfoldable pub told : List Made → List ℕ
@@ -62,22 +62,22 @@ refusals q ring_length list_length out_length limit =
     ∷ 10 when not (within 1 most_packets limit)
     ∷ []
 
-unfoldable pub refusal_of : RxQueue → ℕ → ℕ → ℕ → ℕ → ℕ
+unfoldable pub refusal_of : RxQueue → ℕ → ℕ → ℕ → ℕ → Answer
 refusal_of q ring_length list_length out_length limit = answer_of (refusals q ring_length list_length out_length limit)
 
 -- ---- the burst
 
 module _ (q : RxQueue) (ring list out : List ℕ) (limit : ℕ) where
-  abbrev pub refusal : ℕ
+  abbrev pub refusal : Answer
   refusal = refusal_of q (length ring) (length list) (length out) limit
 
   -- the takes that it makes: none where it is refused
   unfoldable pub made : List Made
-  made = cond (eqb refusal 0) (takes_from ring list limit q) []
+  made = cond (is_ok refusal) (takes_from ring list limit q) []
 
   -- the checks in their order, for the exact cause of each number: 1 and 10, then what stops the takes
   abbrev pub burst_checks : List Check
-  burst_checks = refusals q (length ring) (length list) (length out) limit ++ stopped_by made when true ∷ []
+  burst_checks = refusals q (length ring) (length list) (length out) limit ++ record { answer = stopped_by made; cause = true } ∷ []
 
   unfoldable pub burst_of : Burst
   burst_of = record { answer = answer_of burst_checks; queue = carried q made; packets = length (handing made); examined = sum (map (examined_by ring list) made) }

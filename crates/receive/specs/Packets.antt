@@ -1,5 +1,6 @@
 -- What a take that hands up a packet gives back (01, "Receiving").
 -- Assumes nothing.
+use Rattle.rules.specs.Rules.{done}
 use Rattle.std.specs.Prelude.{ℕ, ◌≤◌, ◌<◌, ◌≡◌, true, List, length, get_or, take}
 use Rattle.ring.specs.Queue.{slot_of}
 use Rattle.places.specs.Words.{length_of}
@@ -19,12 +20,12 @@ module _ (q : RxQueue) (ring list : List ℕ) (t : Taken) where
     pub within : t.packet.count ≤ q.shared.posted
     pub accepted : lent_ok q (length ring) (length list) ≡ true
     pub complete : Complete q.buffer 0 (take t.packet.count (posted_slots q.shared ring list))
-    pub is : t ≡ record { answer = 0; queue = advanced q t.packet.count; packet = packet_of (take t.packet.count (posted_slots q.shared ring list)) }
+    pub is : t ≡ record { answer = done; queue = advanced q t.packet.count; packet = packet_of (take t.packet.count (posted_slots q.shared ring list)) }
 
   -- slot by slot: the address that the list keeps for it, its length, 0 past the slots, and the sum of the lengths
   pub record Told : Type 0 where
-    pub address_at_lem : (i : ℕ) → i < t.packet.count → get_or t.packet.addresses i 0 ≡ get_or list (slot_of q.shared i) 0
-    pub length_at : (i : ℕ) → i < t.packet.count → get_or t.packet.lengths i 0 ≡ length_of (slot_in ring list (slot_of q.shared i)).words
+    pub slot_address : (i : ℕ) → i < t.packet.count → get_or t.packet.addresses i 0 ≡ get_or list (slot_of q.shared i) 0
+    pub slot_length : (i : ℕ) → i < t.packet.count → get_or t.packet.lengths i 0 ≡ length_of (slot_in ring list (slot_of q.shared i)).words
     pub address_past : (i : ℕ) → t.packet.count ≤ i → get_or t.packet.addresses i 0 ≡ 0
     pub length_past : (i : ℕ) → t.packet.count ≤ i → get_or t.packet.lengths i 0 ≡ 0
     pub total_is : t.packet.total ≡ sum (lengths_of (take t.packet.count (posted_slots q.shared ring list)))

@@ -1,7 +1,7 @@
 -- Post (01, "Receiving"): its checks in their order, the record and the lent memory after it.
 -- Assumes nothing.
-use Rattle.std.specs.Prelude.{ℕ, ◌≡◌, not, cond, List, [], ◌∷◌, eqb, length, set}
-use Rattle.rules.specs.Rules.{Check, ◌when◌, answer_of}
+use Rattle.std.specs.Prelude.{ℕ, ◌≡◌, not, cond, List, [], ◌∷◌, length, set, is_ok}
+use Rattle.rules.specs.Rules.{Answer, Check, ◌when◌, answer_of}
 use Rattle.rules.specs.Address.{address_wrong}
 use Rattle.ring.specs.Queue.{tail_of, no_room, grown}
 use Rattle.places.specs.Words.{Words}
@@ -18,7 +18,7 @@ post_checks q ring_length list_length address =
     ∷ 3 when no_room q.shared 1
     ∷ []
 
-unfoldable pub post_answer : RxQueue → ℕ → ℕ → ℕ → ℕ
+unfoldable pub post_answer : RxQueue → ℕ → ℕ → ℕ → Answer
 post_answer q ring_length list_length address = answer_of (post_checks q ring_length list_length address)
 
 -- a slot as it is posted: word 0 = address, word 1 = 0
@@ -30,19 +30,19 @@ abbrev pub one_more : RxQueue → RxQueue
 one_more q = moved_to q (grown q.shared 1)
 
 module _ (q : RxQueue) (ring list : List ℕ) (address : ℕ) where
-  abbrev pub answer_to : ℕ
+  abbrev pub answer_to : Answer
   answer_to = post_answer q (length ring) (length list) address
 
-  -- the answer, and the record with one slot more where it is 0
+  -- the answer, and the record with one slot more where it is done
   abbrev pub post_of : Posted
-  post_of = record { answer = answer_to; queue = cond (eqb answer_to 0) (one_more q) q }
+  post_of = record { answer = answer_to; queue = cond (is_ok answer_to) (one_more q) q }
 
   -- the slot at the tail, in the ring and in the companion list
   abbrev pub ring_after : List ℕ
-  ring_after = cond (eqb answer_to 0) (store_words ring (tail_of q.shared) (blank address)) ring
+  ring_after = cond (is_ok answer_to) (store_words ring (tail_of q.shared) (blank address)) ring
 
   abbrev pub list_after : List ℕ
-  list_after = cond (eqb answer_to 0) (set list (tail_of q.shared) address) list
+  list_after = cond (is_ok answer_to) (set list (tail_of q.shared) address) list
 
   -- all that post returns and leaves
   pub record PostedAs (r : Posted) (ring' list' : List ℕ) : Type 0 where

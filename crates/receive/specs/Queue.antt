@@ -1,9 +1,10 @@
 -- The receive queue record (01, "The queue record"): the lines that it keeps, a fresh queue, the tail.
 -- Assumes nothing.
-use Rattle.std.specs.Prelude.{ℕ, ◌*◌, Bool, ◌&&◌, cond, eqb}
-use Rattle.rules.specs.Rules.{in_steps}
+use Rattle.rules.specs.declared.Refusal.TheVariants.{WrongRecord}
+use Rattle.std.specs.Prelude.{ℕ, ◌*◌, Bool, ◌&&◌, cond, eqb, Result, Err}
+use Rattle.rules.specs.Rules.{in_steps, done}
 use Rattle.ring.specs.declared.Queue.{Queue}
-use Rattle.ring.specs.declared.Asked.{Asked}
+use Rattle.rules.specs.declared.Refusal.{Refusal}
 use Rattle.ring.specs.Queue as Ring
 use Rattle.ring.specs.Queue.{shared_ok, tail_of, asked_of, register_at}
 use Rattle.receive.specs.declared.RxQueue.{RxQueue}
@@ -41,12 +42,12 @@ empty_queue queue size buffer = record { shared = Ring.empty_queue queue size; b
 unfoldable pub fresh_of : ℕ → ℕ → ℕ → Fresh
 fresh_of queue size buffer =
     cond (record_ok (empty_queue queue size buffer))
-    (record { answer = 0; queue = empty_queue queue size buffer })
-    (record { answer = 1; queue = empty_queue 0 0 0 })
+    (record { answer = done; queue = empty_queue queue size buffer })
+    (record { answer = Err WrongRecord; queue = empty_queue 0 0 0 })
 
 -- the tail value, and the tail register at 0x2000 + 4 x queue
-abbrev pub tail_value_of : RxQueue → Asked
+abbrev pub tail_value_of : RxQueue → Result ℕ Refusal
 tail_value_of q = asked_of (record_ok q) (tail_of q.shared)
 
-abbrev pub tail_register_of : RxQueue → Asked
+abbrev pub tail_register_of : RxQueue → Result ℕ Refusal
 tail_register_of q = asked_of (record_ok q) (register_at 0x2000 q.shared.queue)

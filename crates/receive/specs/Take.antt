@@ -1,7 +1,8 @@
 -- Take (01, "Receiving"): its checks in their order, and what it returns.
 -- Assumes nothing.
-use Rattle.std.specs.Prelude.{ℕ, not, cond, List, [], ◌∷◌, length, replicate}
-use Rattle.rules.specs.Rules.{Check, ◌when◌}
+use Rattle.rules.specs.declared.Refusal.TheVariants.{WrongRecord}
+use Rattle.std.specs.Prelude.{ℕ, Err, not, cond, List, [], ◌∷◌, length, replicate}
+use Rattle.rules.specs.Rules.{Check, ◌when◌, done}
 use Rattle.ring.specs.Queue as Ring
 use Rattle.writeback.specs.WriteBack.{write_back_of, no_write_back}
 use Rattle.scan.specs.Slots.{Slot, posted_slots}
@@ -15,7 +16,7 @@ use Rattle.receive.specs.Queue.{lent_ok, moved_to}
 -- the checks in their order: 1, then the slots
 unfoldable pub look : RxQueue → List ℕ → List ℕ → Look
 look q ring list =
-    cond (not (lent_ok q (length ring) (length list))) (refuse 1)
+    cond (not (lent_ok q (length ring) (length list))) (refuse WrongRecord)
     (scan q.buffer 0 (posted_slots q.shared ring list))
 
 -- the same as checks in their order, for the exact cause of each number
@@ -52,8 +53,8 @@ advanced q n = moved_to q (Ring.advanced q.shared n)
 
 -- a refusal returns the record as it came and the packet of no slots, which is `no_packet`
 unfoldable pub take_by : Look → RxQueue → Taken
-take_by (refuse n) q = record { answer = n; queue = q; packet = packet_of [] }
-take_by (whole p) q = record { answer = 0; queue = advanced q (length p); packet = packet_of p }
+take_by (refuse r) q = record { answer = Err r; queue = q; packet = packet_of [] }
+take_by (whole p) q = record { answer = done; queue = advanced q (length p); packet = packet_of p }
 
 unfoldable pub take_of : RxQueue → List ℕ → List ℕ → Taken
 take_of q ring list = take_by (look q ring list) q

@@ -3,6 +3,7 @@
 
 use burst::PACKET_NUMBERS;
 use ring::Queue;
+use rules::Answer;
 use scan::PACKET_SLOTS;
 use writeback::WriteBack;
 
@@ -18,26 +19,29 @@ pub const BURST_PACKETS: usize = 32;
 pub const BURST_NUMBERS: usize = PACKET_NUMBERS * BURST_PACKETS;
 
 // What every queue's record has, and the size of a buffer.
-#[derive(Clone, Copy)]
+#[derive(Clone, Copy, Debug, PartialEq, Eq)]
 pub struct RxQueue {
     pub shared: Queue,
     pub buffer: usize,
 }
 
-#[derive(Clone, Copy)]
+// Kept: a struct for each call, by the names that docs/MANUAL.md gives them.
+// Kept: zeros beside a refusal, since `fresh_of` and `take_refused` (proofs/Takes) say them; Burst has packets and examined beside 4 and 5 (`BurstAs`).
+#[derive(Clone, Copy, Debug, PartialEq, Eq)]
 pub struct Fresh {
-    pub answer: u8,
+    pub answer: Answer,
     pub queue: RxQueue,
 }
 
-#[derive(Clone, Copy)]
+#[derive(Clone, Copy, Debug, PartialEq, Eq)]
 pub struct Posted {
-    pub answer: u8,
+    pub answer: Answer,
     pub queue: RxQueue,
 }
 
 // A packet handed up: places past its slots are 0, and the fields are those of its last slot.
-#[derive(Clone, Copy)]
+// Kept: two arrays and a count, since `Told` names both lists (`slot_address`, `slot_length`) and says that the places past the slots are 0.
+#[derive(Clone, Copy, Debug, PartialEq, Eq)]
 pub struct Packet {
     pub count: usize,
     pub total: usize,
@@ -46,17 +50,17 @@ pub struct Packet {
     pub last: WriteBack,
 }
 
-#[derive(Clone, Copy)]
+#[derive(Clone, Copy, Debug, PartialEq, Eq)]
 pub struct Taken {
-    pub answer: u8,
+    pub answer: Answer,
     pub queue: RxQueue,
     pub packet: Packet,
 }
 
-// What many takes come to: the number that stopped them, the record carried on, the packets taken and the slots examined.
-#[derive(Clone, Copy)]
+// What many takes come to: the answer that stopped them, the record carried on, the packets taken and the slots examined.
+#[derive(Clone, Copy, Debug, PartialEq, Eq)]
 pub struct Burst {
-    pub answer: u8,
+    pub answer: Answer,
     pub queue: RxQueue,
     pub packets: usize,
     pub examined: usize,

@@ -3,38 +3,37 @@ ghost use Rattle.std.specs.Prelude.{◌≡◌};
 ghost use Rattle.receive.specs.Burst.{refusal_of, BurstAs};
 
 use crate::{BURST_NUMBERS, BURST_PACKETS, Burst, RxQueue};
+use rules::{Answer, Refusal};
 
 impl RxQueue {
-    // 1 or 10, in this order, or 0.
+    // 1 or 10, in this order.
+    #[tactic(auto, unfolding(crate::specs::Burst::refusal_of))]
     fn burst_refusal(
         self,
         ring_length: usize,
         list_length: usize,
         out_length: usize,
         limit: usize,
-    ) -> u8
+    ) -> Answer
         ensures { result ≡ refusal_of self ring_length list_length out_length limit }
     {
-        if self.lent_ok(ring_length, list_length) & (out_length == BURST_NUMBERS) {
-            if (1 <= limit) & (limit <= BURST_PACKETS) {
-                0
-            } else {
-                10
-            }
-        } else {
-            1
+        if !self.lent_ok(ring_length, list_length) || out_length != BURST_NUMBERS {
+            return Err(Refusal::WrongRecord);
         }
+        if limit < 1 || BURST_PACKETS < limit {
+            return Err(Refusal::WrongLimit);
+        }
+        Ok(())
     }
 
-    // Answers 1 or 10 with the record as it came, or the number of the take that stopped it, 4 or 5, or 0 if the limit did; packets taken stand. Packet i has
+    // Answers 1 or 10 with the record as it came, or as the take that stopped it, 4 or 5; it is done if the limit stopped it. Packets taken stand. Packet i has
     // its first slot, its slot count and its total length at places 3i to 3i + 2 of `out`, whose places past the packets stay.
     pub fn burst(self, ring: &[u64], list: &[u64], out: &mut [u64], limit: usize) -> Burst
         ensures { BurstAs self ring.now list.now out.old limit result out.new }
     {
-        let answer = self.burst_refusal(ring.len(), list.len(), out.len(), limit);
-        if answer != 0 {
+        if let Err(refusal) = self.burst_refusal(ring.len(), list.len(), out.len(), limit) {
             return Burst {
-                answer,
+                answer: Err(refusal),
                 queue: self,
                 packets: 0,
                 examined: 0,

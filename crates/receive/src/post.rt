@@ -5,20 +5,22 @@ ghost use Rattle.receive.specs.Post.{post_answer, one_more, PostedAs};
 ghost use Rattle.receive.specs.Steps.{PutAs};
 
 use crate::{Posted, RxQueue};
+use rules::{Answer, Refusal};
 
 impl RxQueue {
-    fn post_answer(self, ring_length: usize, list_length: usize, address: u64) -> u8
+    fn post_answer(self, ring_length: usize, list_length: usize, address: u64) -> Answer
         ensures { result ≡ post_answer self ring_length list_length address }
     {
-        if self.lent_ok(ring_length, list_length) {
-            if rules::address_wrong(address, self.buffer as u64) {
-                2
-            } else {
-                if self.shared.no_room(1) { 3 } else { 0 }
-            }
-        } else {
-            1
+        if !self.lent_ok(ring_length, list_length) {
+            return Err(Refusal::WrongRecord);
         }
+        if rules::address_wrong(address, self.buffer as u64) {
+            return Err(Refusal::WrongAddress);
+        }
+        if self.shared.no_room(1) {
+            return Err(Refusal::NoRoom);
+        }
+        Ok(())
     }
 
     // The words of the slot at the tail, and the address beside them.
@@ -42,19 +44,21 @@ impl RxQueue {
         }
     }
 
-    // Answers 1, 2 or 3 in this order, or 0 with the slot posted; a refusal changes nothing.
+    // Refused with 1, 2 or 3 in this order, or the slot is posted; a refusal changes nothing.
     pub fn post(self, ring: &mut [u64], list: &mut [u64], address: u64) -> Posted
         ensures { PostedAs self ring.old list.old address result ring.new list.new }
     {
-        let answer = self.post_answer(ring.len(), list.len(), address);
-        if answer != 0 {
+        if let Err(refusal) = self.post_answer(ring.len(), list.len(), address) {
             return Posted {
-                answer,
+                answer: Err(refusal),
                 queue: self,
             };
         }
         let queue = self.one_more();
         self.put(ring, list, address);
-        Posted { answer, queue }
+        Posted {
+            answer: Ok(()),
+            queue,
+        }
     }
 }

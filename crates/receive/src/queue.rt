@@ -3,7 +3,8 @@ ghost use Rattle.std.specs.Prelude.{◌≡◌};
 ghost use Rattle.receive.specs.Queue.{record_ok, lent_ok, fresh_of, tail_value_of, tail_register_of};
 
 use crate::{Fresh, RxQueue};
-use ring::{Asked, Queue};
+use ring::Queue;
+use rules::Refusal;
 
 const BUFFER_LEAST: usize = 1024;
 
@@ -15,7 +16,8 @@ const BUFFER_STEP: usize = 128;
 const TAIL_REGISTER: u16 = 0x2000;
 
 impl RxQueue {
-    // Answers 0 with an empty queue, or 1 with an all-zero record where a number is outside the lines.
+    // An empty queue, or 1 with an all-zero record where a number is outside the lines.
+    // Kept: transmit has its twin of this, of the tail value and of the register; what they share is in ring, and a trait would have all three again.
     pub fn fresh(queue: usize, size: usize, buffer: usize) -> Fresh
         ensures { result ≡ fresh_of queue size buffer }
     {
@@ -24,10 +26,13 @@ impl RxQueue {
             buffer,
         };
         if queue.record_ok() {
-            Fresh { answer: 0, queue }
+            Fresh {
+                answer: Ok(()),
+                queue,
+            }
         } else {
             Fresh {
-                answer: 1,
+                answer: Err(Refusal::WrongRecord),
                 queue: RxQueue {
                     shared: Queue::empty(0, 0),
                     buffer: 0,
@@ -45,6 +50,7 @@ impl RxQueue {
     }
 
     // The record, and the lengths of the lent ring and companion list.
+    // Kept: two lengths here, and ring and list in post, take and burst, since 01 lends the ring and its companion list as slices, one by one.
     pub(crate) fn lent_ok(self, ring_length: usize, list_length: usize) -> bool
         ensures { result ≡ lent_ok self ring_length list_length }
     {
@@ -56,15 +62,15 @@ impl RxQueue {
         }
     }
 
-    // Answers 0 with the tail value, or 1 with 0 where the record breaks a line.
-    pub fn tail_value(self) -> Asked
+    // The tail value, or 1 where the record breaks a line.
+    pub fn tail_value(self) -> Result<usize, Refusal>
         ensures { result ≡ tail_value_of self }
     {
         self.shared.tail_value(self.record_ok())
     }
 
-    // Answers 0 with the register's offset, or 1 with 0 where the record breaks a line.
-    pub fn tail_register(self) -> Asked
+    // The register's offset, or 1 where the record breaks a line.
+    pub fn tail_register(self) -> Result<usize, Refusal>
         ensures { result ≡ tail_register_of self }
     {
         self.shared.tail_register(self.record_ok(), TAIL_REGISTER)

@@ -5,6 +5,7 @@ ghost use Rattle.receive.specs.Take.{look, take_of};
 ghost use Rattle.receive.specs.Steps.{taken_as};
 
 use crate::{Packet, RxQueue, Taken};
+use rules::Refusal;
 use scan::Seen;
 
 impl RxQueue {
@@ -15,7 +16,7 @@ impl RxQueue {
         if self.lent_ok(ring.len(), list.len()) {
             walk::posted(self.shared, self.buffer, ring, list)
         } else {
-            scan::refused(self.shared, 1)
+            scan::refused(self.shared, Refusal::WrongRecord)
         }
     }
 
@@ -44,7 +45,7 @@ impl RxQueue {
         }
     }
 
-    // Answers 1, then 4 or 5 at the first slot that asks for it, or 0 with the packet; a refusal gives the record as it came and zeros.
+    // Refused with 1, then 4 or 5 at the first slot that asks for it, or the packet; a refusal gives the record as it came and zeros.
     pub fn take(self, ring: &[u64], list: &[u64]) -> Taken
         ensures { result ≡ take_of self ring.now list.now }
     {

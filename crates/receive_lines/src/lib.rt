@@ -3,149 +3,87 @@
 #![tactic(auto)]
 
 use command::Command;
-use receive::{Posted, RxQueue};
-use ring::{Asked, Queue};
-use script::{Given, RING, Row, SLOTS, fresh_row, lent, no_row, poke, queue_of, queue_row, row_of};
-use sum::sum_of;
+use receive::RxQueue;
+use ring::Queue;
+use script::{
+    Memory, Numbers, OUT, RING, Row, SLOTS, asked_row, fresh_row, poke, queue_of, queue_row,
+};
 
-#[derive(Clone, Copy)]
+// The receive queue, its memory, and the burst's list.
+#[derive(Drop)]
 pub struct Rx {
     pub queue: RxQueue,
-    pub ring: usize,
-    pub list: usize,
+    pub memory: Memory<u64, u64, RING, SLOTS>,
+    pub out: [u64; OUT],
 }
 
-// What a line leaves: the queue, and the numbers of its answer.
-#[derive(Clone, Copy)]
-pub struct Received {
-    pub rx: Rx,
-    pub row: Row,
-}
-
-// Nothing asked for yet, and nothing lent.
-pub fn none() -> Rx {
-    Rx {
-        queue: RxQueue {
-            shared: Queue::empty(0, 0),
-            buffer: 0,
-        },
-        ring: 0,
-        list: 0,
-    }
-}
-
-// The record and the lent lengths that a line hands in.
-fn handed(given: Given) -> Rx {
-    Rx {
-        queue: RxQueue {
-            shared: queue_of(given),
-            buffer: given.n6 as usize,
-        },
-        ring: given.n7 as usize,
-        list: given.n8 as usize,
-    }
-}
-
-// The bench with another record.
-pub fn with(rx: Rx, queue: RxQueue) -> Rx {
-    Rx {
-        queue,
-        ring: rx.ring,
-        list: rx.list,
-    }
-}
-
-// A fresh queue has its whole memory lent, where it is one.
-fn begun(answer: u8, queue: RxQueue, rx: Rx) -> Rx {
-    if answer == 0 {
+impl Rx {
+    // Nothing asked for yet, and nothing lent.
+    pub fn new() -> Rx {
         Rx {
-            queue,
-            ring: std::num::wrapping_add_usize(queue.shared.size, queue.shared.size),
-            list: queue.shared.size,
+            queue: RxQueue {
+                shared: Queue::empty(0, 0),
+                buffer: 0,
+            },
+            memory: Memory::of([0; RING], [0; SLOTS]),
+            out: [0; OUT],
         }
-    } else {
-        with(rx, queue)
     }
-}
 
-fn fresh(given: Given, rx: Rx) -> Received {
-    let fresh = RxQueue::fresh(given.n0 as usize, given.n1 as usize, given.n2 as usize);
-    let queue = fresh.queue;
-    let shared = queue.shared;
-    Received {
-        rx: begun(fresh.answer, queue, rx),
-        row: fresh_row(fresh.answer, shared, queue.buffer),
+    // A fresh queue has its whole memory lent, where it is one.
+    fn fresh(&mut self, numbers: &Numbers) -> Row {
+        let fresh = RxQueue::fresh(
+            numbers[0] as usize,
+            numbers[1] as usize,
+            numbers[2] as usize,
+        );
+        let shared = fresh.queue.shared;
+        self.queue = fresh.queue;
+        if fresh.answer.is_ok() {
+            self.memory
+                .lend(shared.size.wrapping_add(shared.size), shared.size);
+        }
+        fresh_row(fresh.answer, shared, fresh.queue.buffer)
     }
-}
 
-fn posted(rx: Rx, posted: Posted) -> Received {
-    let queue = posted.queue;
-    let shared = queue.shared;
-    Received {
-        rx: with(rx, queue),
-        row: queue_row(posted.answer, shared),
+    // The record and the lent lengths that a line hands in.
+    fn hand_in(&mut self, numbers: &Numbers) {
+        self.queue = RxQueue {
+            shared: queue_of(numbers),
+            buffer: numbers[6] as usize,
+        };
+        self.memory.lend(numbers[7] as usize, numbers[8] as usize);
     }
-}
 
-fn post(rx: Rx, address: u64, ring: &mut [u64], list: &mut [u64]) -> Received {
-    let queue = rx.queue;
-    let r = lent(ring, rx.ring);
-    let l = lent(list, rx.list);
-    posted(rx, queue.post(&mut ring[..r], &mut list[..l], address))
-}
-
-fn asked(rx: Rx, asked: Asked) -> Received {
-    Received {
-        rx,
-        row: row_of(&[asked.answer as u64, asked.value as u64]),
+    fn post(&mut self, address: u64) -> Row {
+        let queue = self.queue;
+        let (ring, list) = self.memory.lent_mut();
+        let posted = queue.post(ring, list, address);
+        self.queue = posted.queue;
+        queue_row(posted.answer, posted.queue.shared)
     }
-}
 
-fn sums(rx: Rx, ring: &[u64], list: &[u64]) -> Received {
-    Received {
-        rx,
-        row: row_of(&[sum_of(ring, rx.ring), sum_of(list, rx.list)]),
+    // What a line leaves of the memory and the record, where it is answered by nothing.
+    fn set(&mut self, command: Command, numbers: &Numbers) {
+        let i = numbers[0] as usize;
+        match command {
+            Command::RxSet => self.hand_in(numbers),
+            Command::RxPoke => poke(&mut self.memory.ring, i, numbers[1]),
+            Command::RxList => poke(&mut self.memory.list, i, numbers[1]),
+            _ => {}
+        }
     }
-}
 
-// The lines that need the record alone; any other leaves it as it is.
-fn record_line(command: Command, given: Given, rx: Rx) -> Received {
-    let queue = rx.queue;
-    match command {
-        Command::Rx => fresh(given, rx),
-        Command::RxSet => Received {
-            rx: handed(given),
-            row: no_row(),
-        },
-        Command::RxTail => asked(rx, queue.tail_value()),
-        Command::RxReg => asked(rx, queue.tail_register()),
-        _ => Received { rx, row: no_row() },
-    }
-}
-
-// Memory that a line writes.
-fn write(command: Command, given: Given, ring: &mut [u64; RING], list: &mut [u64; SLOTS]) {
-    let i = given.n0 as usize;
-    let value = given.n1;
-    match command {
-        Command::RxPoke => poke(ring, i, value),
-        Command::RxList => poke(list, i, value),
-        _ => {}
-    }
-}
-
-// The commands of the receive queue that take no packet; any other leaves all as it is.
-pub fn line(
-    command: Command,
-    given: Given,
-    rx: Rx,
-    ring: &mut [u64; RING],
-    list: &mut [u64; SLOTS],
-) -> Received {
-    write(command, given, ring, list);
-    match command {
-        Command::Post => post(rx, given.n0, ring, list),
-        Command::RxSum => sums(rx, ring, list),
-        _ => record_line(command, given, rx),
+    // The commands of the receive queue that take no packet; any other leaves all as it is.
+    pub fn line(&mut self, command: Command, numbers: &Numbers) -> Option<Row> {
+        self.set(command, numbers);
+        match command {
+            Command::Rx => Some(self.fresh(numbers)),
+            Command::Post => Some(self.post(numbers[0])),
+            Command::RxTail => Some(asked_row(self.queue.tail_value())),
+            Command::RxReg => Some(asked_row(self.queue.tail_register())),
+            Command::RxSum => Some(self.memory.sums()),
+            _ => None,
+        }
     }
 }

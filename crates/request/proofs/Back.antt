@@ -1,10 +1,6 @@
 -- Read at their places, the descriptors of an accepted send give back its offload request, and each piece its length.
 -- Assumes nothing.
-use Prim.Native.Nat.{ℕ, ◌*◌, ◌/◌, ◌^◌, ◌≤◌, ◌<◌}
-use mathlib.Core.Path.{◌≡◌, refl, sym, ap, ◌∙◌}
-use mathlib.Core.Bool.{Bool, true, false, cond}
-use native.Mathlib.Omega.{arith}
-use lib.Dec.{T, lit<}
+use Rattle.std.proofs.Common.{ℕ, ◌*◌, ◌/◌, ◌^◌, ◌≤◌, ◌<◌, ◌≡◌, refl, sym, ap, ◌∙◌, Bool, true, false, cond, arith, T, lit<}
 use Rattle.field.specs.Field.{field_of, free}
 use Rattle.descriptor.specs.declared.Context.{Context}
 use Rattle.descriptor.specs.Words.{data_word, read_data, DataFits, context_word, read_context, ContextFits, own}

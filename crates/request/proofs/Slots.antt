@@ -1,9 +1,6 @@
 -- The slots that a send needs.
 -- Assumes nothing.
-use Prim.Native.Nat.{ℕ, ◌+◌, ◌≤◌}
-use mathlib.Core.Path.{◌≡◌}
-use mathlib.Core.Bool.{Bool, true, false, cond}
-use native.Mathlib.Omega.{arith}
+use Rattle.std.proofs.Common.{ℕ, ◌+◌, ◌≤◌, ◌≡◌, Bool, true, false, cond, arith}
 use Rattle.request.specs.declared.Request.{Request}
 use Rattle.request.specs.Request.{slots_of}
 

@@ -1,12 +1,13 @@
 -- The offload request of a send, its kinds' numbers, and how the descriptors carry it (01, "Sending").
 -- Assumes nothing.
-use Rattle.std.specs.Prelude.{ℕ, zero, suc, ◌+◌, ◌*◌, ◌/◌, Bool, ◌||◌, cond, eqb}
+use Rattle.std.specs.Prelude.{ℕ, zero, suc, ◌+◌, ◌*◌, ◌/◌, Bool, ◌||◌, cond, eqb, ◌≡◌, ◌<◌, Result, MatchResult}
 use Rattle.descriptor.specs.declared.Data.{Data}
 use Rattle.descriptor.specs.declared.Context.{Context}
 use Rattle.request.specs.declared.IpKind.{IpKind}
 use Rattle.request.specs.declared.IpKind.TheVariants.{None as NoIp, Ipv6, Ipv4, Ipv4Checksum}
 use Rattle.request.specs.declared.L4Kind.{L4Kind}
 use Rattle.request.specs.declared.L4Kind.TheVariants.{None as NoL4, Tcp, Sctp, Udp}
+use Rattle.request.specs.declared.UnknownKind.{UnknownKind}
 use Rattle.request.specs.declared.Request.{Request}
 
 -- the number of an IP kind, 00b to 11b, and of an L4 kind
@@ -34,6 +35,13 @@ l4_kind_of zero = NoL4
 l4_kind_of (suc zero) = Tcp
 l4_kind_of (suc (suc zero)) = Sctp
 l4_kind_of (suc (suc (suc n))) = Udp
+
+-- the result is the kind of this number; a number above 3 is no kind's, and is handed back
+abbrev pub IpKindAt : ℕ → Result IpKind UnknownKind → Type 0
+IpKindAt n result = MatchResult result (λ kind. iipt_of kind ≡ n) (λ unknown. (unknown.0 ≡ n) × (3 < n))
+
+abbrev pub L4KindAt : ℕ → Result L4Kind UnknownKind → Type 0
+L4KindAt n result = MatchResult result (λ kind. l4t_of kind ≡ n) (λ unknown. (unknown.0 ≡ n) × (3 < n))
 
 abbrev pub is_no_ip : IpKind → Bool
 is_no_ip k = eqb (iipt_of k) (iipt_of NoIp)

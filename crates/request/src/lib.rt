@@ -3,7 +3,7 @@
 
 ghost use Rattle.std.specs.Prelude.{◌≡◌};
 ghost use Rattle.descriptor.specs.Words.{data_word, context_word};
-ghost use Rattle.request.specs.Request.{iipt_of, l4t_of, data_of, context_of};
+ghost use Rattle.request.specs.Request.{iipt_of, l4t_of, IpKindAt, L4KindAt, data_of, context_of};
 
 use descriptor::{Context, Data};
 
@@ -24,7 +24,7 @@ pub const SCTP: u64 = 2;
 
 pub const UDP: u64 = 3;
 
-#[derive(Clone, Copy)]
+#[derive(Clone, Copy, Debug, PartialEq, Eq)]
 pub enum IpKind {
     None,
     Ipv6,
@@ -32,7 +32,7 @@ pub enum IpKind {
     Ipv4Checksum,
 }
 
-#[derive(Clone, Copy)]
+#[derive(Clone, Copy, Debug, PartialEq, Eq)]
 pub enum L4Kind {
     None,
     Tcp,
@@ -40,8 +40,13 @@ pub enum L4Kind {
     Udp,
 }
 
+// A number that stands for no kind.
+#[derive(Clone, Copy, Debug, PartialEq, Eq)]
+pub struct UnknownKind(pub u64);
+
 // What a send asks of the device. The header's lengths are in bytes.
-#[derive(Clone, Copy)]
+// Kept: `vlan` with `tag`, `segmented` with its two numbers are no options: a tag, an MSS or a TLEN not asked for can be said, and is answered 7.
+#[derive(Clone, Copy, Debug, PartialEq, Eq)]
 pub struct Request {
     pub ip: IpKind,
     pub l4: L4Kind,
@@ -57,25 +62,61 @@ pub struct Request {
 
 // ---- the numbers of the kinds
 
-pub fn iipt(kind: IpKind) -> u64
-    ensures { result ≡ iipt_of kind }
-{
-    match kind {
-        IpKind::None => NO_IP,
-        IpKind::Ipv6 => IPV6,
-        IpKind::Ipv4 => IPV4,
-        IpKind::Ipv4Checksum => IPV4_CHECKSUM,
+impl From<IpKind> for u64 {
+    ghost from_gives = { λ kind n. n ≡ iipt_of kind };
+
+    fn from(kind: IpKind) -> u64 {
+        match kind {
+            IpKind::None => NO_IP,
+            IpKind::Ipv6 => IPV6,
+            IpKind::Ipv4 => IPV4,
+            IpKind::Ipv4Checksum => IPV4_CHECKSUM,
+        }
     }
 }
 
-pub fn l4t(kind: L4Kind) -> u64
-    ensures { result ≡ l4t_of kind }
-{
-    match kind {
-        L4Kind::None => NO_L4,
-        L4Kind::Tcp => TCP,
-        L4Kind::Sctp => SCTP,
-        L4Kind::Udp => UDP,
+impl From<L4Kind> for u64 {
+    ghost from_gives = { λ kind n. n ≡ l4t_of kind };
+
+    fn from(kind: L4Kind) -> u64 {
+        match kind {
+            L4Kind::None => NO_L4,
+            L4Kind::Tcp => TCP,
+            L4Kind::Sctp => SCTP,
+            L4Kind::Udp => UDP,
+        }
+    }
+}
+
+impl TryFrom<u64> for IpKind {
+    type Error = UnknownKind;
+
+    ghost try_from_gives = { IpKindAt };
+
+    fn try_from(number: u64) -> Result<Self, UnknownKind> {
+        match number {
+            NO_IP => Ok(IpKind::None),
+            IPV6 => Ok(IpKind::Ipv6),
+            IPV4 => Ok(IpKind::Ipv4),
+            IPV4_CHECKSUM => Ok(IpKind::Ipv4Checksum),
+            _ => Err(UnknownKind(number)),
+        }
+    }
+}
+
+impl TryFrom<u64> for L4Kind {
+    type Error = UnknownKind;
+
+    ghost try_from_gives = { L4KindAt };
+
+    fn try_from(number: u64) -> Result<Self, UnknownKind> {
+        match number {
+            NO_L4 => Ok(L4Kind::None),
+            TCP => Ok(L4Kind::Tcp),
+            SCTP => Ok(L4Kind::Sctp),
+            UDP => Ok(L4Kind::Udp),
+            _ => Err(UnknownKind(number)),
+        }
     }
 }
 
@@ -85,16 +126,12 @@ pub fn l4t(kind: L4Kind) -> u64
 fn data_of(request: Request, length: u64, last: bool) -> Data
     ensures { result ≡ data_of request length last }
 {
-    let ip = request.ip;
-    let l4 = request.l4;
-    let ip_type = iipt(ip);
-    let l4_type = l4t(l4);
     Data {
         eop: last,
         rs: last,
         il2tag1: request.vlan,
-        iipt: ip_type,
-        l4t: l4_type,
+        iipt: u64::from(request.ip),
+        l4t: u64::from(request.l4),
         maclen: request.mac_length / 2,
         iplen: request.ip_length / 4,
         l4len: request.l4_length / 4,

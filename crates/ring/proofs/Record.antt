@@ -1,12 +1,12 @@
 -- The shared part of a queue record: what its test says, what keeps it, whose the slots are, and what is asked of it.
 -- Assumes nothing.
-use Rattle.std.proofs.Common.{◌≡◌, ℕ, ◌+◌, ◌^◌, ◌<◌, ◌≤◌, Bool, true, false, not, ◌&&◌, ltb, leb, [], ◌∷◌, refl, arith, ltb-true, le-ltb, lt-ltb, eq-eqb, eqb-true, leb-true}
+use Rattle.std.proofs.Common.{◌≡◌, ℕ, ◌+◌, ◌^◌, ◌<◌, ◌≤◌, Bool, true, false, not, ◌&&◌, ltb, leb, [], ◌∷◌, refl, arith, ltb-true, le-ltb, lt-ltb, eq-eqb, eqb-true, leb-true, Ok, Err, IfOk, rules}
 use mathlib.Core.Bool.{and-false}
-use Rattle.rules.specs.Rules.{in_steps, ◌when◌, answer_of}
+use Rattle.rules.specs.declared.Refusal.TheVariants.{WrongRecord}
+use Rattle.rules.specs.Rules.{in_steps, answered, ◌when◌, answer_of}
 use Rattle.rules.proofs.Tests.{both, steps_is}
 use Rattle.rules.proofs.Checks.{one_check}
 use Rattle.ring.specs.declared.Queue.{Queue}
-use Rattle.ring.specs.declared.Asked.{Asked}
 use Rattle.slots.specs.Slots.{distance}
 use Rattle.ring.specs.Sizes.{most_queue, least_size, most_size, size_step, queue_ok, place_ok, counts_ok, tail_bits}
 use Rattle.ring.specs.Queue.{ever_posted, ever_returned, shared_ok, Shared, slot_of, tail_of, is_devices, empty_queue, advanced, grown, asked_of}
@@ -106,12 +106,12 @@ module _ (q : Queue) (is : Shared q) where
 
 -- ---- what is asked of it
 
-pub asked_answer : (ok : Bool) (n : ℕ) → (asked_of ok n).answer ≡ answer_of (1 when not ok ∷ [])
+pub asked_answer : (ok : Bool) (n : ℕ) → answered (asked_of ok n) ≡ answer_of (1 when not ok ∷ [])
 unfolding asked_of
-asked_answer ok n = one_check (λ (a : Asked). a.answer) ok (record { answer = 0; value = n }) (record { answer = 1; value = 0 }) refl refl
+asked_answer ok n = one_check answered ok (Ok n) (Err WrongRecord) refl refl
 
 -- a number that is asked for is below a bound, if it is so of an accepted record
-pub asked_below : (ok : Bool) (n bound : ℕ) → 0 < bound → (ok ≡ true → n < bound) → (asked_of ok n).value < bound
+pub asked_below : (ok : Bool) (n bound : ℕ) → (ok ≡ true → n < bound) → IfOk (asked_of ok n) (λ v. v < bound)
 unfolding asked_of
-asked_below true n bound z h = h refl
-asked_below false n bound z h = z
+asked_below true n bound h = search rules
+asked_below false n bound h = search rules

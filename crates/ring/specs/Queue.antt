@@ -1,9 +1,10 @@
 -- The queue record (01), the part that the receive and the transmit queue share: queue number, size, head, posted, and the counts of slots ever
 -- posted and ever handed back (02, "A figure that moves on the console page"). Each queue's own record holds it beside a number of its own.
 -- Assumes nothing.
-use Rattle.std.specs.Prelude.{◌≡◌, ℕ, ◌+◌, ◌-◌, ◌*◌, ◌<◌, ◌≤◌, Bool, cond, ◌&&◌, ◌||◌, nat_lt}
+use Rattle.std.specs.Prelude.{◌≡◌, ℕ, ◌+◌, ◌-◌, ◌*◌, ◌<◌, ◌≤◌, Bool, cond, ◌&&◌, ◌||◌, nat_lt, Result, Ok, Err}
+use Rattle.rules.specs.declared.Refusal.{Refusal}
+use Rattle.rules.specs.declared.Refusal.TheVariants.{WrongRecord}
 use Rattle.ring.specs.declared.Queue.{Queue}
-use Rattle.ring.specs.declared.Asked.{Asked}
 use Rattle.slots.specs.Slots.{slot_at, distance}
 use Rattle.ring.specs.Sizes.{most_queue, least_size, most_size, most_count, queue_ok, place_ok, counts_ok}
 
@@ -58,9 +59,9 @@ advanced q n = record { queue = q.queue; size = q.size; head = slot_of q n; post
 abbrev pub grown : Queue → ℕ → Queue
 grown q n = record { queue = q.queue; size = q.size; head = q.head; posted = q.posted + n; ever_posted = ever_posted q + n; ever_returned = ever_returned q }
 
--- a number asked of a record: of one that is not accepted, 1 and 0
-unfoldable pub asked_of : Bool → ℕ → Asked
-asked_of ok n = cond ok (record { answer = 0; value = n }) (record { answer = 1; value = 0 })
+-- a number asked of a record: of one that is not accepted, 1
+unfoldable pub asked_of : Bool → ℕ → Result ℕ Refusal
+asked_of ok n = cond ok (Ok n) (Err WrongRecord)
 
 -- the tail register of a queue stands at 4 x queue after that of queue 0
 abbrev pub register_at : ℕ → ℕ → ℕ

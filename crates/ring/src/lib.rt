@@ -7,6 +7,7 @@ ghost use Rattle.ring.specs.Queue.{Shared, ever_posted, ever_returned, shared_ok
 ghost use Rattle.ring.specs.Steps.{Advance, Grow, Judged};
 ghost use Rattle.slots.specs.Steps.{SlotIs};
 
+use rules::Refusal;
 use slots::slot;
 
 const QUEUE_MOST: usize = 3;
@@ -24,7 +25,7 @@ const COUNT_MOST: u64 = 0xffffffffffffffff;
 const REGISTER_STEP: usize = 4;
 
 // The part of a queue record that both queues have. The two counts are of slots since the queue was fresh.
-#[derive(Clone, Copy)]
+#[derive(Clone, Copy, Debug, PartialEq, Eq)]
 pub struct Queue {
     pub queue: usize,
     pub size: usize,
@@ -32,13 +33,6 @@ pub struct Queue {
     pub posted: usize,
     pub ever_posted: u64,
     pub ever_returned: u64,
-}
-
-// A number asked of a record, 0 beside a refusal.
-#[derive(Clone, Copy)]
-pub struct Asked {
-    pub answer: u8,
-    pub value: usize,
 }
 
 impl Queue {
@@ -132,38 +126,26 @@ impl Queue {
     }
 
     // The tail of a record that has been judged.
-    pub fn tail_value(self, ok: bool) -> Asked
+    pub fn tail_value(self, ok: bool) -> Result<usize, Refusal>
         requires { Judged self ok }
         ensures { result ≡ asked_of ok (tail_of self) }
     {
         if ok {
-            Asked {
-                answer: 0,
-                value: self.tail(),
-            }
+            Ok(self.tail())
         } else {
-            Asked {
-                answer: 1,
-                value: 0,
-            }
+            Err(Refusal::WrongRecord)
         }
     }
 
     // Its tail register, where that of queue 0 stands at `first`.
-    pub fn tail_register(self, ok: bool, first: u16) -> Asked
+    pub fn tail_register(self, ok: bool, first: u16) -> Result<usize, Refusal>
         requires { Judged self ok }
         ensures { result ≡ asked_of ok (register_at first self.queue) }
     {
         if ok {
-            Asked {
-                answer: 0,
-                value: first as usize + REGISTER_STEP * self.queue,
-            }
+            Ok(first as usize + REGISTER_STEP * self.queue)
         } else {
-            Asked {
-                answer: 1,
-                value: 0,
-            }
+            Err(Refusal::WrongRecord)
         }
     }
 }

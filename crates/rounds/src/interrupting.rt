@@ -1,6 +1,6 @@
 // Interrupt words.
 use interrupt::{Answer, Enable, Request};
-use measure::checksum;
+use measure::checksum::Sum;
 
 // Half of the requests ask for on, a quarter for off, a quarter for leave.
 fn enable(i: u64) -> Enable {
@@ -13,10 +13,9 @@ fn enable(i: u64) -> Enable {
 
 // Requests that are all right: with off goes write-back-on-ITR, and the index is not 3.
 fn request(i: u64) -> Request {
-    let kind = enable(i);
     Request {
         vector: i % 64,
-        enable: kind,
+        enable: enable(i),
         write_back: i % 4 == 2,
         clear: i % 2 == 1,
         trigger: i % 8 < 4,
@@ -29,7 +28,7 @@ fn request(i: u64) -> Request {
 fn ask(asked: Request, idle: bool) -> Answer {
     if idle {
         Answer {
-            answer: 0,
+            answer: Ok(()),
             offset: asked.vector,
             word: asked.interval,
         }
@@ -39,15 +38,10 @@ fn ask(asked: Request, idle: bool) -> Answer {
 }
 
 pub(crate) fn rounds(idle: bool, rounds: u64) -> u64 {
-    let mut sum = 0;
-    let mut i = 0;
-    while i < rounds {
+    let mut sum = Sum::default();
+    for i in 0..rounds {
         let a = ask(request(i), idle);
-        sum = checksum::mix(
-            checksum::mix(checksum::byte(sum, a.answer), a.offset),
-            a.word,
-        );
-        i += 1;
+        sum = sum.with(a.answer).with(a.offset).with(a.word);
     }
-    sum
+    sum.0
 }

@@ -1,8 +1,15 @@
 // Packet types: each number in turn, looked up in the table or by the match.
-use family::{Family, family_number};
-use measure::checksum;
-use packet_types::{Entry, L4, l4_number, packet_type};
+use family::Family;
+use measure::checksum::Sum;
+use packet_types::{Entry, L4, packet_type};
 use type_match::entry_of;
+
+// What a number is looked up by.
+#[derive(Clone, Copy, Debug, PartialEq, Eq)]
+pub(crate) enum By {
+    Table,
+    Match,
+}
 
 // What stands for an entry in an idle run.
 fn no_entry(ptype: u8) -> Entry {
@@ -14,29 +21,27 @@ fn no_entry(ptype: u8) -> Entry {
     }
 }
 
-fn look_up(ptype: u8, table: bool, idle: bool) -> Entry {
+fn look_up(ptype: u8, by: By, idle: bool) -> Entry {
     if idle {
-        no_entry(ptype)
-    } else if table {
-        packet_type(ptype)
-    } else {
-        entry_of(ptype)
+        return no_entry(ptype);
+    }
+    match by {
+        By::Table => packet_type(ptype),
+        By::Match => entry_of(ptype),
     }
 }
 
-fn with(sum: u64, entry: Entry) -> u64 {
-    let family = entry.family;
-    let l4 = entry.l4;
-    let told = checksum::byte(checksum::mix(sum, family_number(family)), entry.version);
-    checksum::mix(checksum::mix(told, entry.fragment as u64), l4_number(l4))
+fn with(sum: Sum, entry: Entry) -> Sum {
+    sum.with(u64::from(entry.family))
+        .with(entry.version)
+        .with(entry.fragment)
+        .with(u64::from(entry.l4))
 }
 
-pub(crate) fn rounds(table: bool, idle: bool, rounds: u64) -> u64 {
-    let mut sum = 0;
-    let mut i = 0;
-    while i < rounds {
-        sum = with(sum, look_up((i % 256) as u8, table, idle));
-        i += 1;
+pub(crate) fn rounds(by: By, idle: bool, rounds: u64) -> u64 {
+    let mut sum = Sum::default();
+    for i in 0..rounds {
+        sum = with(sum, look_up((i % 256) as u8, by, idle));
     }
-    sum
+    sum.0
 }

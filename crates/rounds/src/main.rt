@@ -9,6 +9,7 @@ ghost use Rattle.std.specs.Prelude.{◌≤◌, length, IfOk};
 mod interrupting;
 mod looking_up;
 
+use send_rounds::Asked;
 use std::io;
 use std::io::{Print, Read};
 
@@ -20,38 +21,44 @@ const NUMBERS: usize = 7;
 // A number on a line grows by a digit while it is below this.
 const LARGE: u64 = 100_000_000_000;
 
-// The operations.
-const RECEIVE: u64 = 1;
+// What a line asks for.
+#[derive(Clone, Copy, Debug, PartialEq, Eq)]
+enum Operation {
+    Receive,
+    Send,
+    Interrupt,
+    // Many packets of one slot a round.
+    Poll(burst_rounds::By),
+    // A packet type a round.
+    LookUp(looking_up::By),
+}
 
-const SEND: u64 = 2;
-
-// Many packets of one slot a round, by a burst or by as many takes.
-const BURST: u64 = 4;
-
-const TAKES: u64 = 5;
-
-// A packet type a round, by the table or by the match.
-const TABLE: u64 = 6;
-
-const MATCH: u64 = 7;
+impl From<u64> for Operation {
+    // Any other number asks for interrupt words.
+    fn from(number: u64) -> Operation {
+        match number {
+            1 => Operation::Receive,
+            2 => Operation::Send,
+            4 => Operation::Poll(burst_rounds::By::Burst),
+            5 => Operation::Poll(burst_rounds::By::Takes),
+            6 => Operation::LookUp(looking_up::By::Table),
+            7 => Operation::LookUp(looking_up::By::Match),
+            _ => Operation::Interrupt,
+        }
+    }
+}
 
 // A line as far as it is read.
-#[derive(Clone, Copy)]
+#[derive(Clone, Copy, Debug, Default, PartialEq, Eq)]
 struct Line {
     values: [u64; NUMBERS],
     at: usize,
 }
 
-fn empty_line() -> Line {
-    Line {
-        values: [0; NUMBERS],
-        at: 0,
-    }
-}
-
+// Kept: the program prints the same on every input: the library's parse refuses what this reads.
 fn with_digit(value: u64, byte: u8) -> u64 {
     if value < LARGE {
-        value * 10 + measure::checksum::wide(byte % 16)
+        value * 10 + u64::from(byte % 16)
     } else {
         value
     }
@@ -71,28 +78,16 @@ fn with_byte(line: Line, byte: u8) -> Line {
 }
 
 // One run: what a line asks for, number by number.
-fn run(
-    operation: u64,
-    idle: bool,
-    rounds: u64,
-    size: u64,
-    pieces: u64,
-    behind: u64,
-    mss: u64,
-) -> u64 {
-    match operation {
-        RECEIVE => receive_rounds::rounds(size, pieces, idle, rounds),
-        SEND => send_rounds::rounds(size, pieces, send_rounds::wanted(behind, mss, idle, rounds)),
-        BURST => burst_rounds::bursts(size, pieces, idle, rounds),
-        TAKES => burst_rounds::takes(size, pieces, idle, rounds),
-        TABLE | MATCH => looking_up::rounds(operation == TABLE, idle, rounds),
-        _ => interrupting::rounds(idle, rounds),
-    }
-}
-
 fn answer(line: Line) -> u64 {
-    let v = line.values;
-    run(v[0], v[1] == 1, v[2], v[3], v[4], v[5], v[6])
+    let [operation, idle, rounds, size, pieces, behind, mss] = line.values;
+    let idle = idle == 1;
+    match Operation::from(operation) {
+        Operation::Receive => receive_rounds::rounds(size, pieces, idle, rounds),
+        Operation::Send => send_rounds::rounds(size, pieces, Asked::new(behind, mss, idle, rounds)),
+        Operation::Interrupt => interrupting::rounds(idle, rounds),
+        Operation::Poll(by) => burst_rounds::rounds(size, pieces, by, idle, rounds),
+        Operation::LookUp(by) => looking_up::rounds(by, idle, rounds),
+    }
 }
 
 fn print(rt: &impl Print, line: Line) -> io::Result<()> {
@@ -102,17 +97,14 @@ fn print(rt: &impl Print, line: Line) -> io::Result<()> {
 }
 
 fn answer_lines(rt: &impl Print, text: &[u8]) -> io::Result<()> {
-    let mut line = empty_line();
-    let mut i = 0;
-    while i < text.len() {
-        let byte = text[i];
+    let mut line = Line::default();
+    for &byte in text {
         if byte == b'\n' {
             print(rt, line)?;
-            line = empty_line();
+            line = Line::default();
         } else {
             line = with_byte(line, byte);
         }
-        i += 1;
     }
     Ok(())
 }
@@ -122,6 +114,7 @@ fn read_full<R: Read>(input: &mut R, text: &mut [u8]) -> io::Result<usize>
     ensures { IfOk result (λ n. n ≤ length text.new) }
 {
     let mut done = 0;
+    // Kept: a step is as long as a read gives; the library's `read_to_end` needs a heap, and `read_exact` refuses a shorter input.
     while done < text.len() {
         let n = input.read(&mut text[done..])?;
         if n == 0 {

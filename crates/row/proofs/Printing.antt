@@ -1,14 +1,10 @@
 -- Bytes that fit are put, and a row is put number by number. Assumes nothing.
-use Prim.Native.Nat.{ℕ, suc, ◌+◌, ◌≤◌, ◌<◌}
-use mathlib.Core.Path.{◌≡◌, refl, ap, sym, ◌∙◌}
-use mathlib.Core.Bool.{true, false}
-use mathlib.Core.List.{List, [], ◌∷◌, ◌++◌}
-use native.Mathlib.Omega.{arith}
-use native.Mathlib.Nat.{add-zero}
-use native.Mathlib.Numerals.{add-one}
-use borrow.Author.Tests.{le-leb, lt-leb}
-use lib.ListN.{length, get_or, set, drop, length-append, length-set, drop_of_length-le}
-use lib.Seq.{sets, drop-cons, length-sets}
+use Rattle.std.proofs.Common.{ℕ, suc, ◌+◌, ◌-◌, ◌≤◌, ◌<◌, ◌≡◌, refl, ap, sym, ◌∙◌, true, false, List, [], ◌∷◌, ◌++◌, length, get_or, set, drop, arith, add-zero, add-one, le-leb, length-append, append_assoc, length-set, drop_of_length-le, drop-cons}
+use borrow.Author.Tests.{lt-leb}
+use borrow.Rule.Slice.PartMut.{put_mid}
+use Rattle.std.proofs.lemmas.Slice.{put_mid-paste}
+use Rattle.std.proofs.lemmas.List.Edits.{sets, sets-eq, paste_all}
+use lib.Seq.{length-sets}
 use Rattle.digits.specs.Digits.{digits_of}
 use Rattle.digits.specs.Put.{Put, fits_at}
 use Rattle.row.specs.Rows.{fields_of, row_of, Whole}
@@ -52,27 +48,9 @@ none_put out at bytes h =
     let t : fits_at (length out) at (length bytes) ≡ false = lt-leb (at + length bytes) (length out) h in
     record { next_is = rw t; text_is = rw t }
 
--- a word, byte by byte
-pub record Copied (first : List ℕ) (at : ℕ) (word out : List ℕ) (i : ℕ) : Type 0 where
-  pub few : i ≤ length word
-  pub long : length out ≡ length first
-  pub text_is : sets out (at + i) (drop i word) ≡ sets first at word
-
-module _ {first : List ℕ} {at : ℕ} {word : List ℕ} where
-  pub none_copied : Copied first at word first 0
-  none_copied = record { few = omega arith; long = refl; text_is = rw add-zero }
-
-  pub one_copied : {out : List ℕ} {i : ℕ} → Copied first at word out i → i < length word → Copied first at word (set out (at + i) (get_or word i 0)) (i + 1)
-  one_copied {out} {i} s h =
-      let e : at + (i + 1) ≡ suc (at + i) = omega arith in
-      record {
-        few = omega arith;
-        long = simp length-set s.long;
-        text_is = rw e (rw (add-one i) (rw (drop-cons word i 0 h) at s.text_is));
-      }
-
-  pub all_copied : {out : List ℕ} {i : ℕ} → Copied first at word out i → length word ≤ i → out ≡ sets first at word
-  all_copied {out} {i} s h = rw (drop_of_length-le word h) at s.text_is
+-- bytes copied into the part of a text
+pub copied : (l : List ℕ) (at : ℕ) (ys vs : List ℕ) → at + length vs ≤ length l → ys ≡ vs → put_mid at (at + length vs - at) l ys ≡ sets l at vs
+copied l at ys vs h e = put_mid-paste at (at + length vs - at) l ys vs (length vs) e (omega arith) refl ∙ paste_all l at vs (length vs) refl ∙ sym (rw append_assoc at (sets-eq vs l at h))
 
 -- how long the rest of a row is
 module _ (ns : List ℕ) (i : ℕ) where

@@ -2,7 +2,6 @@
 #![tactic(auto)]
 
 ghost use Rattle.std.specs.Prelude.{◌≡◌, ◌+◌, ◌-◌, ◌≤◌, length, take};
-ghost use Rattle.std.proofs.lemmas.List.Edits.{sets};
 ghost use Rattle.digits.specs.Put.{Put};
 ghost use Rattle.row.specs.Rows.{fields_of, row_of, Whole};
 
@@ -10,35 +9,17 @@ const SPACE: u8 = b' ';
 
 const LINE_END: u8 = b'\n';
 
-fn copy(out: &mut [u8], at: usize, word: &[u8])
-    requires { at + length word.now ≤ length out.old }
-    ensures { out.new ≡ sets out.old at word.now }
-{
-    let mut i = 0;
-    while i < word.len() {
-        out[at + i] = word[i];
-        i += 1;
-    }
-}
-
 // Puts the bytes of a word at a place, and answers the place after them; where they do not fit,
 // nothing is put, and the answer is the place itself.
 fn put_word(out: &mut [u8], at: usize, word: &[u8]) -> usize
     ensures { Put out.old at word.now result out.new }
 {
     if digits::has_room(out.len(), at, word.len()) {
-        copy(out, at, word);
+        out[at..at + word.len()].copy_from_slice(word);
         at + word.len()
     } else {
         at
     }
-}
-
-// What is left of a, and nothing where b is more.
-fn less(a: usize, b: usize) -> usize
-    ensures { result ≡ a - b }
-{
-    if b < a { a - b } else { 0 }
 }
 
 // What is left of so much room behind the numbers of a row and the end of its line.
@@ -46,12 +27,10 @@ fn room_behind(room: usize, numbers: &[u64]) -> usize
     ensures { result ≡ room - length (fields_of numbers.now) }
 {
     let mut left = room;
-    let mut i = 0;
-    while i < numbers.len() {
-        left = less(left, 1 + digits::digit_count(numbers[i]));
-        i += 1;
+    for number in numbers {
+        left = left.saturating_sub(1 + digits::digit_count(*number));
     }
-    less(left, 1)
+    left.saturating_sub(1)
 }
 
 // The numbers of a row and the end of its line, for which there is room.
@@ -60,11 +39,9 @@ fn write_fields(out: &mut [u8], at: usize, numbers: &[u64]) -> usize
     ensures { Whole out.old at (fields_of numbers.now) result out.new }
 {
     let mut place = at;
-    let mut i = 0;
-    while i < numbers.len() {
+    for number in numbers {
         out[place] = SPACE;
-        place = digits::put_number(out, place + 1, numbers[i]);
-        i += 1;
+        place = digits::put_number(out, place + 1, *number);
     }
     out[place] = LINE_END;
     place + 1
@@ -74,7 +51,9 @@ fn write_fields(out: &mut [u8], at: usize, numbers: &[u64]) -> usize
 fn put_all(out: &mut [u8], at: usize, name: &[u8], numbers: &[u64]) -> usize
     ensures { Put out.old at (row_of name.now numbers.now) result out.new }
 {
-    let room = less(less(out.len() + 1, at), name.len());
+    let room = (out.len() + 1)
+        .saturating_sub(at)
+        .saturating_sub(name.len());
     if 0 < room_behind(room, numbers) {
         let place = put_word(out, at, name);
         write_fields(out, place, numbers)
@@ -88,9 +67,5 @@ fn put_all(out: &mut [u8], at: usize, name: &[u8], numbers: &[u64]) -> usize
 pub fn put_row(out: &mut [u8], at: usize, name: &[u8], numbers: &[u64], count: usize) -> usize
     ensures { Put out.old at (row_of name.now (take count numbers.now)) result out.new }
 {
-    if count < numbers.len() {
-        put_all(out, at, name, &numbers[..count])
-    } else {
-        put_all(out, at, name, numbers)
-    }
+    put_all(out, at, name, &numbers[..count.min(numbers.len())])
 }

@@ -34,14 +34,8 @@ pub same : (s t : Bool) → (s ≡ true → t ≡ true) → (s ≡ false → t �
 same true t f g = sym (f refl)
 same false t f g = sym (g refl)
 
-pub leb_same : (a b c d : ℕ) → (a ≤ b → c ≤ d) → (b < a → d < c) → leb a b ≡ leb c d
-leb_same a b c d f g = same (leb a b) (leb c d) (λ e. le-leb c d (f (leb-true a b e))) (λ e. lt-leb c d (g (leb-false a b e)))
-
 pub ltb_same : (a b c d : ℕ) → (a < b → c < d) → (b ≤ a → d ≤ c) → ltb a b ≡ ltb c d
 ltb_same a b c d f g = same (ltb a b) (ltb c d) (λ e. lt-ltb c d (f (ltb-true a b e))) (λ e. le-ltb c d (g (ltb-false a b e)))
-
-pub eqb_same : (a b c : ℕ) → (a ≡ b → a ≡ c) → (a ≡ c → a ≡ b) → eqb a b ≡ eqb a c
-eqb_same a b c f g = same (eqb a b) (eqb a c) (λ e. eq-eqb a c (f (eqb-true a b e))) (λ e. ne_eqb a c (λ h. eqb-false a b e (g h)))
 
 pub within_is : (low high x : ℕ) → within low high x ≡ true → (low ≤ x) × (x ≤ high)
 within_is low high x e = let h = both (leb low x) (leb x high) e in (leb-true low x h.0, leb-true x high h.1)

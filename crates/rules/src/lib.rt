@@ -1,8 +1,60 @@
-// Rules that the receive and the transmit queue share.
+// Rules that all queues share, and why a call refuses.
 #![tactic(auto)]
 
 ghost use Rattle.std.specs.Prelude.{◌≡◌, cond, ◌-◌, ◌^◌, ◌≤◌, eqb};
 ghost use Rattle.rules.specs.Address.{address_wrong};
+ghost use Rattle.rules.specs.Rules.{number, number_of};
+
+// Why a call refuses: the causes of the paper's numbers from 1 on, in their order.
+#[derive(Clone, Copy, Debug, PartialEq, Eq)]
+pub enum Refusal {
+    WrongRecord,
+    WrongAddress,
+    NoRoom,
+    NotYet,
+    Contradiction,
+    WrongPieces,
+    WrongRequest,
+    Crowded,
+    WrongInterrupt,
+    WrongLimit,
+    WrongLength,
+    AfterShutdown,
+}
+
+// What a call answers: done, or why it refuses.
+pub type Answer = Result<(), Refusal>;
+
+impl From<Refusal> for u8 {
+    ghost from_gives = { λ r n. n ≡ number r };
+
+    fn from(refusal: Refusal) -> u8 {
+        match refusal {
+            Refusal::WrongRecord => 1,
+            Refusal::WrongAddress => 2,
+            Refusal::NoRoom => 3,
+            Refusal::NotYet => 4,
+            Refusal::Contradiction => 5,
+            Refusal::WrongPieces => 6,
+            Refusal::WrongRequest => 7,
+            Refusal::Crowded => 8,
+            Refusal::WrongInterrupt => 9,
+            Refusal::WrongLimit => 10,
+            Refusal::WrongLength => 11,
+            Refusal::AfterShutdown => 12,
+        }
+    }
+}
+
+// The paper's number of an answer: 0 is done.
+pub fn number_of(answer: Answer) -> u8
+    ensures { result ≡ number_of answer }
+{
+    match answer {
+        Ok(()) => 0,
+        Err(refusal) => u8::from(refusal),
+    }
+}
 
 // The largest 64-bit number.
 const LAST: u64 = 18446744073709551615;

@@ -1,15 +1,6 @@
 -- Where the pieces of a joined list begin.
 -- Assumes nothing.
-use Prim.Native.Nat.{ℕ, zero, suc, ◌+◌, ◌≤◌, ◌<◌, min}
-use mathlib.Core.Path.{◌≡◌, refl, ap, ◌∙◌}
-use mathlib.Core.Bool.{true, cond}
-use mathlib.Core.List.{List, [], ◌∷◌}
-use native.Mathlib.Omega.{arith}
-use native.Mathlib.Nat.{add-zero}
-use borrow.Author.Tests.{eqb-true, leb-true}
-use lib.Dec.{leb, eqb}
-use lib.ListN.{length, get_or, take, drop}
-use lib.Seq.{drop-drop, get_or-drop, ext_get_or}
+use Rattle.std.proofs.Common.{ℕ, zero, suc, ◌+◌, ◌≤◌, ◌<◌, min, ◌≡◌, refl, ap, ◌∙◌, true, cond, List, [], ◌∷◌, arith, add-zero, eqb-true, leb-true, leb, eqb, length, get_or, take, drop, drop-drop, get_or-drop, ext_get_or}
 use Rattle.rules.specs.Rules.{all_below}
 use Rattle.rules.proofs.Tests.{both, all_each}
 use Rattle.request.specs.Sound.{most_length}

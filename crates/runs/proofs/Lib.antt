@@ -1,3 +1,4 @@
+pub mod Parts
 pub mod Tests
 pub mod Joined
 pub mod Origin

@@ -1,13 +1,7 @@
 -- Every byte of the joined packet comes from the same piece and offset as before.
 -- Assumes nothing.
-use Prim.Native.Nat.{ℕ, zero, suc, ◌+◌, ◌-◌, ◌≤◌, ◌<◌}
-use mathlib.Core.Path.{◌≡◌, ap}
-use mathlib.Core.Bool.{true}
-use mathlib.Core.List.{List}
-use native.Mathlib.Omega.{arith}
+use Rattle.std.proofs.Common.{ℕ, zero, suc, ◌+◌, ◌-◌, ◌≤◌, ◌<◌, ◌≡◌, ap, true, List, arith, length, get_or, take, drop, length-take, length-drop, get_or-take, get_or-drop}
 use native.Mathlib.Decide.{dec_lt}
-use lib.ListN.{length, get_or, take, drop, length-take, length-drop}
-use lib.Seq.{get_or-take, get_or-drop}
 use Rattle.segments.specs.Touch.{start_of, total}
 use Rattle.segments.proofs.Starts.{start_zero, start_next, start_before}
 use Rattle.runs.specs.Runs.{joined, covers, run_of, At}

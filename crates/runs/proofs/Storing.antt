@@ -1,16 +1,7 @@
 -- What the loops of `covered`, `join_lengths`, `join_addresses` and `place_copies` know at their heads.
 -- Assumes nothing.
-use Prim.Native.Nat.{ℕ, suc, ◌+◌, ◌-◌, ◌≤◌, ◌<◌, min}
-use mathlib.Core.Path.{◌≡◌, refl, sym, ap, ◌∙◌}
-use mathlib.Core.Bool.{Bool, true, false, cond, true≢false}
-use mathlib.Core.List.{List}
-use native.Mathlib.Omega.{arith}
-use native.Mathlib.Numerals.{add-one}
-use borrow.Author.Count.{below_none, below_more}
-use borrow.Author.Tests.{le-leb, eqb-true, eqb-false, eq-eqb}
-use lib.Dec.{leb, eqb}
-use lib.ListN.{length, get_or, set, length-set}
-use lib.Seq.{ext_get_or, get_or-set_same, get_or-set_other}
+use Rattle.std.proofs.Common.{ℕ, suc, ◌+◌, ◌-◌, ◌≤◌, ◌<◌, min, ◌≡◌, refl, sym, ap, ◌∙◌, Bool, true, false, cond, true≢false, List, arith, add-one, below_none, below_more, le-leb, eqb-true, eq-eqb, leb, eqb, length, get_or, set, length-set, ext_get_or, get_or-set_same, get_or-set_other}
+use borrow.Author.Tests.{eqb-false}
 use Rattle.rules.specs.Rules.{within, all_below}
 use Rattle.rules.proofs.Tests.{and_both, same, within_is, all_none, all_more}
 use Rattle.request.specs.Sound.{most_length}

@@ -1,12 +1,7 @@
 -- The cap 8,192 suffices: no segment of the joined list touches over 8 pieces.
 -- Assumes nothing.
-use Prim.Native.Nat.{ℕ, zero, suc, ◌+◌, ◌≤◌, ◌<◌}
-use mathlib.Core.Path.{◌≡◌, refl}
-use mathlib.Core.Bool.{Bool, true, false, cond, ◌||◌}
-use mathlib.Core.List.{List}
-use native.Mathlib.Omega.{arith}
+use Rattle.std.proofs.Common.{ℕ, zero, suc, ◌+◌, ◌≤◌, ◌<◌, ◌≡◌, refl, Bool, true, false, cond, ◌||◌, List, arith, length}
 use native.Mathlib.Decide.{dec_lt}
-use lib.ListN.{length}
 use Rattle.segments.specs.Touch.{count_below, start_of, total, holds, covers_from, covers_upto, is_crowded}
 use Rattle.segments.proofs.Starts.{start_zero, start_up, start_past}
 use Rattle.segments.proofs.Meaning.{holds_is, not_crowded}

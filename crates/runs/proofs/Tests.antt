@@ -1,10 +1,6 @@
 -- What tests say, besides the laws that every crate shares: from facts to tests that pass.
 -- Assumes nothing.
-use Prim.Native.Nat.{ℕ, zero, suc, ◌≤◌, ◌<◌}
-use mathlib.Core.Path.{◌≡◌, refl}
-use mathlib.Core.Bool.{Bool, true, false}
-use native.Mathlib.Omega.{arith}
-use borrow.Author.Tests.{le-leb}
+use Rattle.std.proofs.Common.{ℕ, zero, suc, ◌≤◌, ◌<◌, ◌≡◌, refl, Bool, true, false, arith, le-leb}
 use Rattle.rules.specs.Rules.{within, all_below}
 use Rattle.rules.proofs.Tests.{and_both}
 

@@ -5,7 +5,7 @@ ghost use Rattle.std.specs.Prelude.{◌≡◌, ◌+◌, ◌-◌, ◌≤◌, ◌<
 ghost use Rattle.request.specs.Sound.{most_length};
 ghost use Rattle.segments.specs.Touch.{start_of};
 ghost use Rattle.runs.specs.Runs.{covers, joined, noted, joined_addresses, valid};
-ghost use Rattle.runs.specs.Steps.{Filled, Covered, Placed};
+ghost use Rattle.runs.specs.Steps.{told_by, Filled, Covered, Placed};
 
 use pieces::MOST_LENGTH;
 
@@ -18,46 +18,52 @@ const VALID: u64 = 1;
 fn stays(bytes: u64, length: u64, cap: u64) -> bool
     ensures { result ≡ leb (bytes + length) cap }
 {
-    if bytes <= cap {
-        length <= cap - bytes
-    } else {
-        false
+    match cap.checked_sub(bytes) {
+        Some(room) => length <= room,
+        None => false,
     }
 }
 
-// What is stored of a run: its bytes, or its pieces.
-fn told(in_bytes: bool, pieces: u64, bytes: u64) -> u64
-    ensures { result ≡ cond in_bytes bytes pieces }
+// What is stored of a run.
+#[derive(Clone, Copy, Debug, PartialEq, Eq)]
+pub enum RunsBy {
+    Pieces,
+    Bytes,
+}
+
+fn told(by: RunsBy, pieces: u64, bytes: u64) -> u64
+    ensures { result ≡ told_by by pieces bytes }
 {
-    if in_bytes { bytes } else { pieces }
+    match by {
+        RunsBy::Pieces => pieces,
+        RunsBy::Bytes => bytes,
+    }
 }
 
 // The plan of a cap, each run told by its pieces or by its bytes: a run grows from the left while its bytes stay within the cap. Returns how
 // many runs there are; places behind them are left. Nothing is stored if there are fewer places than pieces. `count` runs are closed, and
 // the open one holds `held` pieces.
-pub fn fill(lengths: &[u64], cap: u64, in_bytes: bool, runs: &mut [u64]) -> usize
-    ensures { Filled in_bytes lengths.now cap runs.old runs.new result }
+pub fn fill(lengths: &[u64], cap: u64, by: RunsBy, runs: &mut [u64]) -> usize
+    ensures { Filled by lengths.now cap runs.old runs.new result }
 {
     let n = lengths.len();
     if (1 <= n) & (n <= runs.len()) {
+        // Kept: fewer runs than pieces are stored, so no zip gives the place.
         let mut count = 0;
         let mut held = 1;
         let mut bytes = lengths[0];
-        let mut i = 1;
-        while i < n {
-            let l = lengths[i];
+        for &l in &lengths[1..] {
             if stays(bytes, l, cap) {
                 held += 1;
                 bytes += l;
             } else {
-                runs[count] = told(in_bytes, held, bytes);
+                runs[count] = told(by, held, bytes);
                 count += 1;
                 held = 1;
                 bytes = l;
             }
-            i += 1;
         }
-        runs[count] = told(in_bytes, held, bytes);
+        runs[count] = told(by, held, bytes);
         count + 1
     } else {
         0
@@ -71,15 +77,12 @@ pub fn covered(plan: &[u64], n: usize) -> bool
     ensures { result ≡ covers plan.now n }
 {
     let mut left = n as u64;
-    let mut r = 0;
-    while r < plan.len() {
-        let p = plan[r];
+    for &p in plan {
         if (1 <= p) & (p <= left) {
             left -= p;
         } else {
             return false;
         }
-        r += 1;
     }
     left == 0
 }
@@ -90,15 +93,13 @@ fn run_bytes(lengths: &[u64], from: usize, upto: usize) -> u64
     ensures { result ≡ min (start_of lengths.now upto - start_of lengths.now from) (most_length + 1) }
 {
     let mut bytes = 0;
-    let mut i = from;
-    while i < upto {
-        let l = lengths[i];
+    for &l in &lengths[from..upto] {
         if l <= MOST_LENGTH - bytes {
             bytes += l;
         } else {
+            // Kept: noted says that number.
             return MOST_LENGTH + 1;
         }
-        i += 1;
     }
     bytes
 }
@@ -109,12 +110,11 @@ pub fn join_lengths(lengths: &[u64], plan: &[u64], sizes: &mut [u64])
     ensures { sizes.new ≡ noted (joined lengths.now plan.now) }
 {
     let mut at = 0;
-    let mut r = 0;
-    while r < plan.len() {
+    // Kept: the library's law of a zip's turn, zip_turn, is of two shared slices and none of iter_mut; so in the two functions below as well.
+    for r in 0..plan.len() {
         let next = at + plan[r] as usize;
         sizes[r] = run_bytes(lengths, at, next);
         at = next;
-        r += 1;
     }
 }
 
@@ -131,12 +131,10 @@ pub fn join_addresses(addresses: &[u64], plan: &[u64], places: &mut [u64])
     ensures { places.new ≡ joined_addresses addresses.now plan.now valid }
 {
     let mut at = 0;
-    let mut r = 0;
-    while r < plan.len() {
+    for r in 0..plan.len() {
         let p = plan[r];
         places[r] = run_address(p, addresses[at], VALID);
         at += p as usize;
-        r += 1;
     }
 }
 
@@ -145,9 +143,7 @@ pub fn place_copies(plan: &[u64], joined: &[u64], places: &mut [u64])
     requires { (length joined.now ≡ length plan.now) × (length places.old ≡ length plan.now) }
     ensures { Placed plan.now joined.now places.old places.new }
 {
-    let mut r = 0;
-    while r < plan.len() {
+    for r in 0..plan.len() {
         places[r] = run_address(plan[r], places[r], joined[r]);
-        r += 1;
     }
 }

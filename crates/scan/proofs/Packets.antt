@@ -6,6 +6,7 @@ use mathlib.Core.List.{List, [], ◌∷◌, ◌++◌, map}
 use native.Mathlib.Nat.{zero-add, add-zero, add_assoc}
 use native.Mathlib.Omega.{arith}
 use lib.ListN.{length, get_or, set, take, replicate}
+use Rattle.rules.specs.declared.Refusal.{Refusal}
 use Rattle.scan.specs.Slots.{Slot}
 use Rattle.scan.specs.Scan.{packet_slots, Look, refuse, whole, and_then}
 use Rattle.scan.specs.Told.{sum, padded, last_words}
@@ -55,7 +56,7 @@ unfolding after
 after_more [] s l = refl
 after_more (t ∷ p) s l = ap (and_then t) (after_more p s l)
 
-pub after_refuse : (p : List Slot) (n : ℕ) → after p (refuse n) ≡ refuse n
+pub after_refuse : (p : List Slot) (n : Refusal) → after p (refuse n) ≡ refuse n
 unfolding after and_then
 after_refuse [] n = refl
 after_refuse (t ∷ p) n = rw (after_refuse p n)

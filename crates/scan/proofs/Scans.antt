@@ -8,7 +8,10 @@ use mathlib.Core.List.{List, [], ◌∷◌, ◌++◌, map}
 use native.Mathlib.Omega.{arith}
 use borrow.Author.Tests.{not-true}
 use lib.ListN.{length, get_or, take, length-map, get_or-eq_default, length-append}
-use Rattle.rules.specs.Rules.{answer_of}
+use Rattle.std.specs.Prelude.{Err}
+use Rattle.rules.specs.declared.Refusal.{Refusal}
+use Rattle.rules.specs.declared.Refusal.TheVariants.{NotYet, Contradiction}
+use Rattle.rules.specs.Rules.{Answer, done, answer_of}
 use Rattle.rules.proofs.Tests.{both}
 use Rattle.ring.specs.declared.Queue.{Queue}
 use Rattle.slots.specs.Slots.{run}
@@ -66,7 +69,7 @@ seen_is buffer k (s ∷ rest) p h =
         rw (← q) (record { complete = goes w e b.complete; rest = b.rest; are = ap (λ (x : List Slot). s ∷ x) b.are })
 
     go : (d a e : Bool) (f : Look) → dd s.words ≡ d → allowed buffer k s.words ≡ a → eop s.words ≡ e
-        → cond (not d) (refuse 4) (cond (not a) (refuse 5) (cond e (whole (s ∷ [])) (and_then s f))) ≡ whole p
+        → cond (not d) (refuse NotYet) (cond (not a) (refuse Contradiction) (cond e (whole (s ∷ [])) (and_then s f))) ≡ whole p
         → ((p' : List Slot) → f ≡ whole p' → Begins buffer (suc k) rest p') → Begins buffer k (s ∷ rest) p
     go false a e f hd ha he h r = let z : ◌≡◌ {A = ℕ} 0 1 = cc in absurd (omega arith)
     go true false e f hd ha he h r = let z : ◌≡◌ {A = ℕ} 0 1 = cc in absurd (omega arith)
@@ -76,14 +79,14 @@ seen_is buffer k (s ∷ rest) p h =
     go true true false f hd ha he h r = onward f h (joined buffer k s.words hd ha) he r
 
 -- a scan refuses with 4 or 5
-pub refused_with : (buffer k : ℕ) (slots : List Slot) (n : ℕ) → scan buffer k slots ≡ refuse n → (n ≡ 4) ⊎ (n ≡ 5)
+pub refused_with : (buffer k : ℕ) (slots : List Slot) (n : Refusal) → scan buffer k slots ≡ refuse n → (n ≡ NotYet) ⊎ (n ≡ Contradiction)
 unfolding scan and_then
 refused_with buffer k [] n h = inl (cc)
 refused_with buffer k (s ∷ rest) n h =
     go (dd s.words) (allowed buffer k s.words) (eop s.words) (scan buffer (suc k) rest) h (λ m. refused_with buffer (suc k) rest m)
   where
-    go : (d a e : Bool) (f : Look) → cond (not d) (refuse 4) (cond (not a) (refuse 5) (cond e (whole (s ∷ [])) (and_then s f))) ≡ refuse n
-        → ((m : ℕ) → f ≡ refuse m → (m ≡ 4) ⊎ (m ≡ 5)) → (n ≡ 4) ⊎ (n ≡ 5)
+    go : (d a e : Bool) (f : Look) → cond (not d) (refuse NotYet) (cond (not a) (refuse Contradiction) (cond e (whole (s ∷ [])) (and_then s f))) ≡ refuse n
+        → ((m : Refusal) → f ≡ refuse m → (m ≡ NotYet) ⊎ (m ≡ Contradiction)) → (n ≡ NotYet) ⊎ (n ≡ Contradiction)
     go false a e f h r = inl (cc)
     go true false e f h r = inr (cc)
     go true true true f h r = let z : ◌≡◌ {A = ℕ} 0 1 = cc in absurd (omega arith)
@@ -172,29 +175,29 @@ unread buffer k (s ∷ rest) others h = go (goes_on buffer k s.words) refl h (λ
     go true g l r = goes_alike buffer k s g _ rest (r (omega arith))
     go false g l r = stops_alike buffer k s others rest g
 
--- the number of what a scan sees
-abbrev pub number_of : Look → ℕ
-number_of (refuse n) = n
-number_of (whole p) = 0
+-- the answer to what a scan sees
+abbrev pub answer_to : Look → Answer
+answer_to (refuse r) = Err r
+answer_to (whole p) = done
 
-number_then : (s : Slot) (l : Look) → number_of (and_then s l) ≡ number_of l
+answer_then : (s : Slot) (l : Look) → answer_to (and_then s l) ≡ answer_to l
 unfolding and_then
-number_then s (refuse n) = refl
-number_then s (whole p) = refl
+answer_then s (refuse r) = refl
+answer_then s (whole p) = refl
 
-pub scan_answer : (buffer k : ℕ) (slots : List Slot) → number_of (scan buffer k slots) ≡ answer_of (slot_checks buffer k slots)
+pub scan_answer : (buffer k : ℕ) (slots : List Slot) → answer_to (scan buffer k slots) ≡ answer_of (slot_checks buffer k slots)
 unfolding scan slot_checks
 scan_answer buffer k [] = refl
 scan_answer buffer k (s ∷ rest) =
     go (not (dd s.words)) (not (allowed buffer k s.words)) (eop s.words) (scan_answer buffer (suc k) rest)
   where
-    go : (d a e : Bool) → number_of (scan buffer (suc k) rest) ≡ answer_of (slot_checks buffer (suc k) rest)
-        → number_of (cond d (refuse 4) (cond a (refuse 5) (cond e (whole (s ∷ [])) (and_then s (scan buffer (suc k) rest)))))
-        ≡ cond d 4 (cond a 5 (cond e 0 (answer_of (slot_checks buffer (suc k) rest))))
+    go : (d a e : Bool) → answer_to (scan buffer (suc k) rest) ≡ answer_of (slot_checks buffer (suc k) rest)
+        → answer_to (cond d (refuse NotYet) (cond a (refuse Contradiction) (cond e (whole (s ∷ [])) (and_then s (scan buffer (suc k) rest)))))
+        ≡ cond d (Err NotYet) (cond a (Err Contradiction) (cond e done (answer_of (slot_checks buffer (suc k) rest))))
     go true a e r = refl
     go false true e r = refl
     go false false true r = refl
-    go false false false r = number_then s (scan buffer (suc k) rest) ∙ r
+    go false false false r = answer_then s (scan buffer (suc k) rest) ∙ r
 
 module _ (q : Queue) (ring list : List ℕ) where
   abbrev slots : List Slot

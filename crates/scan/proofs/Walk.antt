@@ -8,6 +8,8 @@ use native.Mathlib.Nat.{zero-add, add-zero, sub-zero, add-suc, mod-lt}
 use native.Mathlib.Numerals.{add-one}
 use native.Mathlib.Omega.{arith}
 use lib.ListN.{length, set, length-map}
+use Rattle.rules.specs.declared.Refusal.TheVariants.{NotYet, Contradiction}
+use Rattle.rules.specs.Rules.{done}
 use Rattle.ring.specs.declared.Queue.{Queue}
 use Rattle.slots.specs.Slots.{run}
 use Rattle.ring.specs.Queue.{slot_of, advanced}
@@ -23,11 +25,11 @@ use Rattle.scan.proofs.Packets.{padded_more, sum_more, map_more, last_more, afte
 -- ---- one slot of a scan
 
 module _ (buffer k : ℕ) (s : Slot) (rest : List Slot) where
-  pub not_done : dd s.words ≡ false → scan buffer k (s ∷ rest) ≡ refuse 4
+  pub not_done : dd s.words ≡ false → scan buffer k (s ∷ rest) ≡ refuse NotYet
   unfolding scan
   not_done d = rw d
 
-  pub not_allowed : dd s.words ≡ true → allowed buffer k s.words ≡ false → scan buffer k (s ∷ rest) ≡ refuse 5
+  pub not_allowed : dd s.words ≡ true → allowed buffer k s.words ≡ false → scan buffer k (s ∷ rest) ≡ refuse Contradiction
   unfolding scan
   not_allowed d a = rw (d, a)
 
@@ -95,7 +97,7 @@ word1_only buffer k x = refl
 module _ (q : Queue) (buffer : ℕ) (ring list : List ℕ) (total k : ℕ) (w : Walked q buffer ring list total k) where
   -- past the posted ones
   module _ (h : q.posted ≤ k) where
-    pub at_end : scanned q buffer ring list ≡ refuse 4
+    pub at_end : scanned q buffer ring list ≡ refuse NotYet
     unfolding scan
     at_end = w.so_far ∙ rw (rest_none q ring list k h) (after_refuse _ _)
 
@@ -131,14 +133,14 @@ module _ (q : Queue) (buffer : ℕ) (ring list : List ℕ) (total k : ℕ) (w : 
     read_here : goes_on buffer k here.words ≡ false → slots_read q buffer ring list ≡ k + 1
     read_here g = reads false g
 
-    pub at_clear : dd here.words ≡ false → scanned q buffer ring list ≡ refuse 4
+    pub at_clear : dd here.words ≡ false → scanned q buffer ring list ≡ refuse NotYet
     at_clear d = from_here _ (not_done _ _ here _ d) ∙ after_refuse _ _
 
     pub read_at_clear : dd here.words ≡ false → slots_read q buffer ring list ≡ k + 1
     unfolding goes_on writable
     read_at_clear d = read_here (rw d)
 
-    pub at_wrong : dd here.words ≡ true → ok ≡ false → scanned q buffer ring list ≡ refuse 5
+    pub at_wrong : dd here.words ≡ true → ok ≡ false → scanned q buffer ring list ≡ refuse Contradiction
     at_wrong d a = from_here _ (not_allowed _ _ here _ d (allow a)) ∙ after_refuse _ _
 
     pub read_at_wrong : dd here.words ≡ true → ok ≡ false → slots_read q buffer ring list ≡ k + 1
@@ -195,7 +197,7 @@ module _ (q : Queue) (buffer : ℕ) (ring list : List ℕ) (total k : ℕ) (w : 
       pub told : dd here.words ≡ true → ok ≡ true → eop here.words ≡ true
           → seen_by (scanned q buffer ring list) q
           ≡ record {
-            answer = 0;
+            answer = done;
             queue = advanced q (k + 1);
             count = k + 1;
             total = total + size;

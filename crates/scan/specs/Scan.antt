@@ -1,6 +1,8 @@
 -- The device's rules on a packet's slots, and what a scan of the posted slots sees (01, "Receiving"; 02, "A full packet followed by an empty slot").
 -- Assumes nothing.
 use Rattle.std.specs.Prelude.{ℕ, suc, ◌+◌, ◌≡◌, Bool, true, false, not, ◌&&◌, ◌||◌, cond, List, [], ◌∷◌, leb, ltb, eqb}
+use Rattle.rules.specs.declared.Refusal.{Refusal}
+use Rattle.rules.specs.declared.Refusal.TheVariants.{NotYet, Contradiction}
 use Rattle.rules.specs.Rules.{Check, ◌when◌}
 use Rattle.places.specs.Words.{Words, dd, eop, length_of}
 use Rattle.scan.specs.Slots.{Slot}
@@ -31,24 +33,24 @@ pub data Complete (buffer : ℕ) : ℕ → List Slot → Type 0 where
   ends : {k : ℕ} {s : Slot} → writable buffer k s.words ≡ true → eop s.words ≡ true → Complete buffer k (s ∷ [])
   goes : {k : ℕ} {s : Slot} {p : List Slot} → writable buffer k s.words ≡ true → eop s.words ≡ false → Complete buffer (suc k) p → Complete buffer k (s ∷ p)
 
--- ---- what a scan sees: a number that refuses, or the slots of a whole packet
+-- ---- what a scan sees: a refusal, or the slots of a whole packet
 
 pub data Look : Type 0 where
-  refuse : ℕ → Look
+  refuse : Refusal → Look
   whole : List Slot → Look
 
 -- a slot before those seen
 unfoldable pub and_then : Slot → Look → Look
-and_then s (refuse n) = refuse n
+and_then s (refuse r) = refuse r
 and_then s (whole p) = whole (s ∷ p)
 
 -- the posted slots from head upward, k slots of the packet passed: past the posted ones or DD clear, 4; what the rules do not allow at that
 -- place, 5; with EOP the packet is complete
 unfoldable pub scan : ℕ → ℕ → List Slot → Look
-scan buffer k [] = refuse 4
+scan buffer k [] = refuse NotYet
 scan buffer k (s ∷ rest) =
-    cond (not (dd s.words)) (refuse 4)
-    (cond (not (allowed buffer k s.words)) (refuse 5)
+    cond (not (dd s.words)) (refuse NotYet)
+    (cond (not (allowed buffer k s.words)) (refuse Contradiction)
     (cond (eop s.words) (whole (s ∷ []))
     (and_then s (scan buffer (suc k) rest))))
 

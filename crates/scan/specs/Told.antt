@@ -1,6 +1,7 @@
 -- What a scan gives back: what is told of the slots of the packet, or zeros (01, "Receiving").
 -- Assumes nothing.
-use Rattle.std.specs.Prelude.{ℕ, ◌+◌, List, [], ◌∷◌, ◌++◌, map, length, take, replicate}
+use Rattle.std.specs.Prelude.{ℕ, Err, ◌+◌, List, [], ◌∷◌, ◌++◌, map, length, take, replicate}
+use Rattle.rules.specs.Rules.{Answer, done}
 use Rattle.ring.specs.declared.Queue.{Queue}
 use Rattle.ring.specs.Queue.{advanced}
 use Rattle.places.specs.Words.{Words, length_of}
@@ -29,10 +30,10 @@ last_words (s ∷ []) = s.words
 last_words (s ∷ (t ∷ r)) = last_words (t ∷ r)
 
 -- the answer and the record, the slot count, the total length, each slot's posted address and length, and the last slot's words
-unfoldable pub seen_of : ℕ → Queue → List Slot → Seen
-seen_of n q p =
+unfoldable pub seen_of : Answer → Queue → List Slot → Seen
+seen_of a q p =
     record {
-      answer = n;
+      answer = a;
       queue = q;
       count = length p;
       total = sum (lengths_of p);
@@ -44,5 +45,5 @@ seen_of n q p =
 
 -- a refusal gives the record as it came and zeros; with a packet head moves on by its slots, and posted falls by them
 unfoldable pub seen_by : Look → Queue → Seen
-seen_by (refuse n) q = seen_of n q []
-seen_by (whole p) q = seen_of 0 (advanced q (length p)) p
+seen_by (refuse r) q = seen_of (Err r) q []
+seen_by (whole p) q = seen_of done (advanced q (length p)) p

@@ -6,6 +6,7 @@ ghost use Rattle.scan.specs.Scan.{Look, allowed};
 ghost use Rattle.scan.specs.Told.{seen_by};
 
 use ring::Queue;
+use rules::{Answer, Refusal};
 
 // A packet is 1 to 5 slots with data, then at most one of length 0, which is its last.
 const DATA_SLOTS: usize = 5;
@@ -14,9 +15,10 @@ pub const PACKET_SLOTS: usize = DATA_SLOTS + 1;
 
 // What a scan gives: the answer, the record's shared part after it, and of a packet the slot count, the total length, each slot's address and length
 // (places past the slots are 0) and the last slot's words.
-#[derive(Clone, Copy)]
+// Kept: zeros beside a refusal, as a take gives them on (01; edits refused_of_one, refused_addresses); and its two arrays, as in receive's Packet.
+#[derive(Clone, Copy, Debug, PartialEq, Eq)]
 pub struct Seen {
-    pub answer: u8,
+    pub answer: Answer,
     pub queue: Queue,
     pub count: usize,
     pub total: usize,
@@ -41,11 +43,11 @@ pub fn slot_ok(buffer: usize, k: usize, word1: u64) -> bool
 }
 
 // A refusal: the record as it came, and zeros.
-pub fn refused(queue: Queue, answer: u8) -> Seen
-    ensures { result ≡ seen_by (Look.refuse answer) queue }
+pub fn refused(queue: Queue, refusal: Refusal) -> Seen
+    ensures { result ≡ seen_by (Look.refuse refusal) queue }
 {
     Seen {
-        answer,
+        answer: Err(refusal),
         queue,
         count: 0,
         total: 0,

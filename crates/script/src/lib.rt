@@ -1,10 +1,12 @@
-// What the lines of a script share: how much memory a queue has, the first numbers of a line, the part of the record that both queues
-// have, as it is handed in and printed, and the numbers of an answer. A part of the program `probe`: what it prints is compared.
+// What the lines of a script share: how much memory a queue has, a line's numbers, the part of the record that both queues have, as it is
+// handed in and printed, and the numbers of an answer. A part of the program `probe`: what it prints is compared.
 #![tactic(auto)]
 
-ghost use Rattle.script.specs.Lent.{Lent};
-
+use arrayvec::ArrayVec;
+use parts::{first, first_mut};
 use ring::Queue;
+use rules::{Answer, Refusal, number_of};
+use sum::{Summand, sum_of};
 
 // Each queue's memory, in slots, and in numbers of its ring.
 pub const SLOTS: usize = 8192;
@@ -30,73 +32,102 @@ pub const NUMBERS: usize = GIVEN + RING;
 // The numbers of the longest answer: a take.
 pub const LONGEST: usize = 36;
 
-// The first numbers of a line, by their place.
-#[derive(Clone, Copy)]
-pub struct Given {
-    pub n0: u64,
-    pub n1: u64,
-    pub n2: u64,
-    pub n3: u64,
-    pub n4: u64,
-    pub n5: u64,
-    pub n6: u64,
-    pub n7: u64,
-    pub n8: u64,
-    pub n9: u64,
-    pub n10: u64,
-    pub n11: u64,
-    pub n12: u64,
-}
+// A line's numbers, by their place; behind them stand those of earlier lines.
+// Kept: a send has up to 16,397 numbers and there is no heap, so one array serves all lines, and a command takes its own by place.
+pub type Numbers = [u64; NUMBERS];
 
-// An answer's numbers, so many of them; a line that prints nothing has none.
-#[derive(Clone, Copy)]
+// An answer's numbers.
+#[derive(Drop)]
 pub struct Row {
-    pub values: [u64; LONGEST],
-    pub count: usize,
-}
-
-pub fn no_row() -> Row {
-    Row {
-        values: [0; LONGEST],
-        count: 0,
-    }
+    numbers: ArrayVec<u64, LONGEST>,
 }
 
 impl Row {
     // With more numbers behind, as far as there is room.
-    pub fn and(self, more: &[u64]) -> Row {
-        let mut values = self.values;
-        let mut count = self.count;
-        let mut i = 0;
-        while i < more.len() {
-            if count < LONGEST {
-                values[count] = more[i];
-                count += 1;
+    pub fn and(mut self, more: &[u64]) -> Row {
+        for number in more {
+            if !self.numbers.is_full() {
+                self.numbers.push(*number);
             }
-            i += 1;
         }
-        Row { values, count }
+        self
     }
 
-    // The row that has numbers; at most one of two has.
-    pub fn or(self, other: Row) -> Row {
-        if 0 < self.count { self } else { other }
+    pub fn numbers(&self) -> &[u64] {
+        self.numbers.as_slice()
     }
 }
 
 pub fn row_of(numbers: &[u64]) -> Row {
-    no_row().and(numbers)
+    let row = Row {
+        numbers: ArrayVec::new(),
+    };
+    row.and(numbers)
+}
+
+// A queue's ring and its list, and how much of each is lent.
+// Kept: a line says how much is lent apart from what the memory holds, and what stands behind stays: no vector's length. So Tx, which has a third.
+#[derive(Drop)]
+pub struct Memory<R, L, const N: usize, const M: usize> {
+    pub ring: [R; N],
+    pub list: [L; M],
+    pub ring_lent: usize,
+    pub list_lent: usize,
+}
+
+impl<R: Summand, L: Summand, const N: usize, const M: usize> Memory<R, L, N, M> {
+    // Nothing is lent yet.
+    pub fn of(ring: [R; N], list: [L; M]) -> Memory<R, L, N, M> {
+        Memory {
+            ring,
+            list,
+            ring_lent: 0,
+            list_lent: 0,
+        }
+    }
+
+    // So many numbers of the ring and so many of the list are lent.
+    pub fn lend(&mut self, ring: usize, list: usize) {
+        self.ring_lent = ring;
+        self.list_lent = list;
+    }
+
+    // The memory that is lent: the ring and the list.
+    pub fn lent(&self) -> (&[R], &[L]) {
+        (
+            first(&self.ring, self.ring_lent),
+            first(&self.list, self.list_lent),
+        )
+    }
+
+    // The same to be written.
+    pub fn lent_mut(&mut self) -> (&mut [R], &mut [L]) {
+        let Memory {
+            ring,
+            list,
+            ring_lent,
+            list_lent,
+        } = self;
+        (first_mut(ring, *ring_lent), first_mut(list, *list_lent))
+    }
+
+    pub fn sums(&self) -> Row {
+        row_of(&[
+            sum_of(&self.ring, self.ring_lent),
+            sum_of(&self.list, self.list_lent),
+        ])
+    }
 }
 
 // What a line hands in of the record: its first six numbers.
-pub fn queue_of(given: Given) -> Queue {
+pub fn queue_of(numbers: &Numbers) -> Queue {
     Queue {
-        queue: given.n0 as usize,
-        size: given.n1 as usize,
-        head: given.n2 as usize,
-        posted: given.n3 as usize,
-        ever_posted: given.n4,
-        ever_returned: given.n5,
+        queue: numbers[0] as usize,
+        size: numbers[1] as usize,
+        head: numbers[2] as usize,
+        posted: numbers[3] as usize,
+        ever_posted: numbers[4],
+        ever_returned: numbers[5],
     }
 }
 
@@ -111,61 +142,38 @@ fn standing(row: Row, queue: Queue) -> Row {
 }
 
 // How the row of a call begins that hands its queue on.
-pub fn queue_row(answer: u8, queue: Queue) -> Row {
-    standing(row_of(&[answer as u64]), queue)
+pub fn queue_row(answer: Answer, queue: Queue) -> Row {
+    standing(row_of(&[u64::from(number_of(answer))]), queue)
 }
 
 // The row of a fresh queue; the bytes are its buffer's, or its longest frame's.
-pub fn fresh_row(answer: u8, queue: Queue, bytes: usize) -> Row {
-    let first = row_of(&[answer as u64, queue.queue as u64, queue.size as u64]);
+pub fn fresh_row(answer: Answer, queue: Queue, bytes: usize) -> Row {
+    let answer = u64::from(number_of(answer));
+    let first = row_of(&[answer, queue.queue as u64, queue.size as u64]);
     standing(first, queue).and(&[bytes as u64])
 }
 
-// How much of memory is lent: so much, or all of it.
-pub fn lent(memory: &[u64], n: usize) -> usize
-    ensures { Lent result memory.now }
-{
-    if n < memory.len() { n } else { memory.len() }
-}
-
-// The same of slot counts.
-pub fn lent_counts(memory: &[u16], n: usize) -> usize
-    ensures { Lent result memory.now }
-{
-    if n < memory.len() { n } else { memory.len() }
-}
-
-// Of bytes.
-pub fn lent_bytes(memory: &[u8], n: usize) -> usize
-    ensures { Lent result memory.now }
-{
-    if n < memory.len() { n } else { memory.len() }
-}
-
-// And of 32-bit numbers.
-pub fn lent_words(memory: &[u32], n: usize) -> usize
-    ensures { Lent result memory.now }
-{
-    if n < memory.len() { n } else { memory.len() }
+// The row of what was asked of a record, with 0 behind a refusal.
+pub fn asked_row(asked: Result<usize, Refusal>) -> Row {
+    match asked {
+        Ok(value) => row_of(&[0, value as u64]),
+        Err(refusal) => row_of(&[u64::from(number_of(Err(refusal))), 0]),
+    }
 }
 
 // Writes memory, where the place is one of it.
-pub fn poke(memory: &mut [u64], i: usize, value: u64) {
-    if i < memory.len() {
-        memory[i] = value;
+pub fn poke<T: Copy>(memory: &mut [T], i: usize, value: T) {
+    if let Some(place) = memory.get_mut(i) {
+        *place = value;
     }
 }
 
-// Writes a byte; a line with a greater number is a bad one.
-pub fn poke_byte(memory: &mut [u8], i: usize, value: u64) {
-    if i < memory.len() {
-        memory[i] = (value % 0x100) as u8;
-    }
-}
-
-// Writes a 32-bit number, alike.
-pub fn poke_word(memory: &mut [u32], i: usize, value: u64) {
-    if i < memory.len() {
-        memory[i] = (value % 0x1_0000_0000) as u32;
+// Writes a narrower memory; a line with a greater number is a bad one.
+pub fn poke_from<T: TryFrom<u64> + Copy>(memory: &mut [T], i: usize, value: u64)
+where
+    <T as TryFrom<u64>>::Error: Drop,
+{
+    if let Ok(narrow) = T::try_from(value) {
+        poke(memory, i, narrow);
     }
 }

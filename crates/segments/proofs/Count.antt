@@ -1,9 +1,6 @@
 -- Counting the numbers below n that pass a test. Assumes nothing.
-use Prim.Native.Nat.{ℕ, zero, suc, ◌+◌, ◌-◌, ◌≤◌, ◌<◌}
-use mathlib.Core.Path.{◌≡◌, refl}
-use mathlib.Core.Bool.{Bool, true, false, cond, ◌||◌, or-true, false≢true}
-use mathlib.Core.Logic.{◌↔◌}
-use native.Mathlib.Omega.{arith}
+use Rattle.std.proofs.Common.{ℕ, zero, suc, ◌+◌, ◌-◌, ◌≤◌, ◌<◌, ◌≡◌, refl, Bool, true, false, cond, ◌||◌, ◌↔◌, arith}
+use mathlib.Core.Bool.{or-true, false≢true}
 use native.Mathlib.Decide.{le_ind}
 use Rattle.segments.specs.Touch.{count_below, some_below}
 

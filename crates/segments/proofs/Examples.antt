@@ -1,8 +1,6 @@
 -- A piece that holds both header and payload counts once.
 -- Assumes nothing.
-use mathlib.Core.Path.{◌≡◌, refl}
-use mathlib.Core.List.{◌∷◌}
-use lib.ListN.{replicate}
+use Rattle.std.proofs.Common.{◌≡◌, refl, ◌∷◌, replicate}
 use Rattle.segments.specs.Touch.{start_of, count_below, touched}
 
 -- the first piece holds the header and one byte of payload: for segment 0 both, for segment 1 the header alone

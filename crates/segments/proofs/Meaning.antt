@@ -1,14 +1,6 @@
 -- What the tests of `Touch` say: `holds` and `touches` that there is a byte, `is_crowded` that there is a segment. Assumes nothing.
-use Prim.Native.Nat.{ℕ, zero, suc, ◌+◌, ◌*◌, ◌≤◌, ◌<◌, min, max}
-use mathlib.Core.Path.{◌≡◌, refl, sym, ◌∙◌, subst}
-use mathlib.Core.Bool.{Bool, true, false, ◌||◌, and-eq-true_iff, not-eq-not, true≢false}
-use mathlib.Core.List.{List}
-use mathlib.Core.Logic.{◌↔◌, inl, inr, ⊎_elim}
-use native.Mathlib.Omega.{arith}
-use native.Mathlib.Nat.{mul-zero, mul-le-mul_left}
-use borrow.Author.Tests.{lt-ltb, ltb-true}
-use lib.Dec.{ltb}
-use lib.ListN.{length}
+use Rattle.std.proofs.Common.{ℕ, zero, suc, ◌+◌, ◌*◌, ◌≤◌, ◌<◌, min, max, ◌≡◌, refl, sym, ◌∙◌, subst, Bool, true, false, ◌||◌, true≢false, List, ◌↔◌, inl, inr, ⊎_elim, arith, mul-zero, mul-le-mul_left, lt-ltb, ltb-true, ltb, length}
+use mathlib.Core.Bool.{and-eq-true_iff, not-eq-not}
 use Rattle.segments.specs.Touch.{most_touched, count_below, start_of, holds, InPiece, covers_from, covers_upto, OfSegment, touches, touched, is_crowded}
 use Rattle.segments.proofs.Count.{some_is, count_le}
 

@@ -1,11 +1,10 @@
 -- Where pieces begin. Assumes nothing.
-use Prim.Native.Nat.{ℕ, suc, ◌+◌, ◌≤◌, ◌<◌}
-use mathlib.Core.Path.{◌≡◌, refl}
-use mathlib.Core.List.{List}
-use native.Mathlib.Omega.{arith}
-use native.Mathlib.Numerals.{add-one}
+use Rattle.std.proofs.Common.{ℕ, zero, suc, take, ◌+◌, ◌≤◌, ◌<◌, min, ◌≡◌, refl, sym, List, [], ◌∷◌, arith, add-one, length, get_or}
+use Rattle.std.specs.List.{sum}
+use Rattle.std.proofs.Math.Seq.{take-suc}
+use Rattle.std.proofs.lemmas.List.Sums.{sum_by-append}
 use native.Mathlib.Decide.{le_ind, dec_lt}
-use lib.ListN.{length, get_or, get_or-eq_default}
+use lib.ListN.{get_or-eq_default}
 use Rattle.segments.specs.Touch.{start_of, total}
 
 module _ (ls : List ℕ) where
@@ -35,3 +34,12 @@ module _ (ls : List ℕ) where
   pub start_past : (j : ℕ) → length ls ≤ j → start_of ls j ≡ total ls
   unfolding start_of
   start_past = le_ind (λ j. start_of ls j ≡ total ls) refl (λ m h r. omega (arith, get_or-eq_default ls 0 h))
+
+  pub start_least : (j : ℕ) → start_of ls (min (length ls) j) ≡ start_of ls j
+  start_least j = elim (dec_lt (length ls) j) [ yes l ↦ (let e : min (length ls) j ≡ length ls = omega arith in rw e (sym (start_past j (omega arith)))) | no n ↦ (let e : min (length ls) j ≡ j = omega arith in rw e) ]
+
+  -- the library's sum of the first pieces
+  pub start_sum : (n : ℕ) → n ≤ length ls → sum (take n ls) ≡ start_of ls n
+  unfolding start_of
+  start_sum zero l = refl
+  start_sum (suc n) l = rw (take-suc ls n 0 l) (omega (arith, sum_by-append (λ (x : ℕ). x) (take n ls) (get_or ls n 0 ∷ []), start_sum n (omega arith)))

@@ -1,14 +1,7 @@
 -- What the loop of `crowded` knows at its head, from its first turn to its answer. Assumes nothing.
-use Prim.Native.Nat.{ℕ, suc, ◌+◌, ◌-◌, ◌*◌, ◌/◌, ◌≤◌, ◌<◌, min}
-use mathlib.Core.Path.{◌≡◌, ◌∙◌}
-use mathlib.Core.Bool.{true, false}
-use mathlib.Core.List.{List}
-use native.Mathlib.Omega.{arith}
-use native.Mathlib.Numerals.{add-one}
-use native.Mathlib.Nat.{div-eq_of_lt, zero-mul}
+use Rattle.std.proofs.Common.{ℕ, suc, ◌+◌, ◌-◌, ◌*◌, ◌/◌, ◌≤◌, ◌<◌, min, ◌≡◌, ◌∙◌, true, false, List, arith, add-one, zero-mul, below_more, length, get_or}
+use native.Mathlib.Nat.{div-eq_of_lt}
 use native.Mathlib.Decide.{dec_lt}
-use borrow.Author.Count.{below_more}
-use lib.ListN.{length, get_or}
 use Rattle.segments.specs.Touch.{most_touched, header_pieces, start_of, is_crowded}
 use Rattle.segments.specs.Steps.{sum_limit, Checked, Headed}
 use Rattle.segments.proofs.Starts.{start_next, start_up, start_whole}

@@ -1,13 +1,7 @@
 -- Some segment touches over 8 pieces exactly if a run of payload pieces that makes 9 with the header's has the test of the code.
 -- Assumes nothing.
-use Prim.Native.Nat.{ℕ, suc, ◌+◌, ◌-◌, ◌*◌, ◌/◌, ◌≤◌, ◌<◌, suc-le-suc, max}
-use mathlib.Core.Path.{◌≡◌}
-use mathlib.Core.Bool.{true, false}
-use mathlib.Core.List.{List}
-use mathlib.Core.Logic.{◌↔◌, inl, inr, ⊎_elim}
-use native.Mathlib.Omega.{arith}
-use native.Mathlib.Nat.{mul-le-mul_right, div-lt_iff_lt-mul, lt-div-mul-add}
-use lib.ListN.{length}
+use Rattle.std.proofs.Common.{ℕ, suc, ◌+◌, ◌-◌, ◌*◌, ◌/◌, ◌≤◌, ◌<◌, suc-le-suc, max, ◌≡◌, true, false, List, ◌↔◌, inl, inr, ⊎_elim, arith, mul-le-mul_right, div-lt_iff_lt-mul, length}
+use native.Mathlib.Nat.{lt-div-mul-add}
 use Rattle.segments.specs.Touch.{most_touched, start_of, covers_from, covers_upto, touches, is_crowded}
 use Rattle.segments.specs.Steps.{Checked, Headed}
 use Rattle.segments.proofs.Count.{Band, Run, run_counted, counted_run}

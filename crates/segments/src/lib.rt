@@ -17,13 +17,7 @@ fn sum(lengths: &[u64], n: usize) -> u64
     requires { Summed lengths.now n }
     ensures { result ≡ start_of lengths.now n }
 {
-    let mut bytes = 0;
-    let mut i = 0;
-    while i < n {
-        bytes += lengths[i];
-        i += 1;
-    }
-    bytes
+    lengths[..n].iter().sum()
 }
 
 // Whether the header ends within the first three pieces; there may be fewer.
@@ -31,12 +25,7 @@ pub fn header_within(lengths: &[u64], header: u64) -> bool
     requires { total lengths.now < 2 ^ 64 }
     ensures { result ≡ header_within lengths.now header }
 {
-    let n = lengths.len();
-    if n < HEADER_PIECES {
-        header <= sum(lengths, n)
-    } else {
-        header <= sum(lengths, HEADER_PIECES)
-    }
+    header <= sum(lengths, lengths.len().min(HEADER_PIECES))
 }
 
 // How many pieces hold a header byte.
@@ -45,12 +34,14 @@ fn header_pieces(lengths: &[u64], header: u64) -> usize
     ensures { Headed lengths.now header result }
 {
     let mut s = 0;
-    let mut i = 0;
-    while s < header {
+    // Kept: i is the answer; `for (i, &length) in lengths.iter().enumerate().take(HEADER_PIECES)` names it too, and saves one index.
+    for i in 0..HEADER_PIECES {
+        if header <= s {
+            return i;
+        }
         s += lengths[i];
-        i += 1;
     }
-    i
+    HEADER_PIECES
 }
 
 // The bytes of a segment, where there are several. One that is longer than the payload is as good as one of its length.
@@ -58,7 +49,7 @@ fn spacing(mss: u64, tlen: u64) -> u32
     requires { tlen < sum_limit }
     ensures { result ≡ min mss tlen }
 {
-    if mss < tlen { mss as u32 } else { tlen as u32 }
+    mss.min(tlen) as u32
 }
 
 // The first byte of the segment that holds a byte. All totals have 32 bits, so that the division need not have more.
@@ -82,16 +73,15 @@ pub fn crowded(lengths: &[u64], header: u64, mss: u64, tlen: u64) -> bool
     let head = header_pieces(lengths, header);
     let gap = MOST_TOUCHED - head;
     let step = spacing(mss, tlen);
-    let mut i = head;
     let mut end = sum(lengths, head + 1) - header;
     let mut start = sum(lengths, MOST_TOUCHED) - header;
-    while i + gap < lengths.len() {
+    // Kept: each turn reads both ends of one run; a zip of lengths[MOST_TOUCHED..] with lengths[head + 1..] hides that they are a run's.
+    for i in head..lengths.len() - gap {
         if segment_start(start, step) < end {
             return true;
         }
         start += lengths[i + gap];
-        i += 1;
-        end += lengths[i];
+        end += lengths[i + 1];
     }
     false
 }

@@ -1,7 +1,8 @@
 // Rounds of sending: sends, the device's mark in the last slot, and reclaims. A part of the program `rounds`: what it prints is compared.
 #![tactic(auto)]
 
-use measure::{MOST_SLOTS, checksum, device, pieces, within};
+use measure::checksum::Sum;
+use measure::{MOST_SLOTS, device, pieces, within};
 use request::{IpKind, L4Kind, Request};
 use transmit::{Reclaimed, Sent, TxQueue};
 
@@ -24,29 +25,31 @@ pub struct Asked {
     rounds: u64,
 }
 
-pub fn wanted(behind: u64, mss: u64, idle: bool, rounds: u64) -> Asked {
-    Asked {
-        first: if mss == 0 { PLAIN } else { HEADER },
-        behind,
-        mss,
-        idle,
-        rounds,
+impl Asked {
+    pub fn new(behind: u64, mss: u64, idle: bool, rounds: u64) -> Asked {
+        Asked {
+            first: if mss == 0 { PLAIN } else { HEADER },
+            behind,
+            mss,
+            idle,
+            rounds,
+        }
     }
-}
 
-// A request with a VLAN tag that is another each round.
-fn request(asked: Asked, i: u64) -> Request {
-    Request {
-        ip: IpKind::Ipv4Checksum,
-        l4: L4Kind::Tcp,
-        mac_length: 14,
-        ip_length: 20,
-        l4_length: 20,
-        vlan: true,
-        tag: i % 4096,
-        segmented: asked.mss != 0,
-        mss: asked.mss,
-        tlen: if asked.mss == 0 { 0 } else { asked.behind },
+    // A request with a VLAN tag that is another each round.
+    fn request(self, i: u64) -> Request {
+        Request {
+            ip: IpKind::Ipv4Checksum,
+            l4: L4Kind::Tcp,
+            mac_length: 14,
+            ip_length: 20,
+            l4_length: 20,
+            vlan: true,
+            tag: i % 4096,
+            segmented: self.mss != 0,
+            mss: self.mss,
+            tlen: if self.mss == 0 { 0 } else { self.behind },
+        }
     }
 }
 
@@ -54,31 +57,31 @@ fn request(asked: Asked, i: u64) -> Request {
 #[derive(Clone, Copy)]
 struct Run {
     queue: TxQueue,
-    sum: u64,
+    sum: Sum,
     last: usize,
 }
 
-fn start(size: usize) -> Run {
-    let fresh = TxQueue::fresh(0, size, FRAME);
-    let queue = fresh.queue;
-    Run {
-        queue,
-        sum: checksum::byte(0, fresh.answer),
-        last: if size == 0 { 0 } else { size - 1 },
+impl Run {
+    fn start(size: usize) -> Run {
+        let fresh = TxQueue::fresh(0, size, FRAME);
+        Run {
+            queue: fresh.queue,
+            sum: Sum::default().with(fresh.answer),
+            last: size.saturating_sub(1),
+        }
+    }
+
+    fn end(self, ring: &[u64]) -> u64 {
+        let q = self.queue;
+        self.sum
+            .with_record(q.shared)
+            .with(q.frame)
+            .with_each(ring)
+            .0
     }
 }
 
-fn end(run: Run, ring: &[u64]) -> u64 {
-    let q = run.queue;
-    let a = checksum::number(checksum::number(run.sum, q.shared.queue), q.shared.size);
-    let b = checksum::number(checksum::number(a, q.shared.head), q.shared.posted);
-    let c = checksum::mix(
-        checksum::mix(b, q.shared.ever_posted),
-        q.shared.ever_returned,
-    );
-    checksum::lent(checksum::number(c, q.frame), ring)
-}
-
+// Kept: structs of the lent slices, with methods, cost a round of 45 pieces 2,175 instructions against 2,049, one of 8 pieces 431 against 418.
 fn send(
     queue: TxQueue,
     ring: &mut [u64],
@@ -91,20 +94,13 @@ fn send(
 ) -> Sent {
     if asked.idle {
         Sent {
-            answer: 0,
+            answer: Ok(()),
             queue,
             slots: lengths.len(),
         }
     } else {
-        queue.send(
-            ring,
-            tokens,
-            counts,
-            addresses,
-            lengths,
-            token,
-            request(asked, token),
-        )
+        let request = asked.request(token);
+        queue.send(ring, tokens, counts, addresses, lengths, token, request)
     }
 }
 
@@ -118,7 +114,7 @@ fn reclaim(
 ) -> Reclaimed {
     if idle {
         Reclaimed {
-            answer: 0,
+            answer: Ok(()),
             queue,
             token,
             count: tokens.len(),
@@ -138,24 +134,21 @@ fn hand_over(
     i: u64,
     asked: Asked,
 ) -> Run {
-    let before = run.queue;
-    let sent = send(before, ring, tokens, counts, addresses, lengths, i, asked);
-    let queue = sent.queue;
+    let sent = send(
+        run.queue, ring, tokens, counts, addresses, lengths, i, asked,
+    );
     Run {
-        queue,
-        sum: checksum::number(checksum::byte(run.sum, sent.answer), sent.slots),
+        queue: sent.queue,
+        sum: run.sum.with(sent.answer).with(sent.slots),
         last: device::further(run.last, sent.slots, tokens.len()),
     }
 }
 
 fn get_back(run: Run, ring: &[u64], tokens: &[u64], counts: &[u16], i: u64, idle: bool) -> Run {
-    let before = run.queue;
-    let back = reclaim(before, ring, tokens, counts, i, idle);
-    let queue = back.queue;
-    let sum = checksum::mix(checksum::byte(run.sum, back.answer), back.token);
+    let back = reclaim(run.queue, ring, tokens, counts, i, idle);
     Run {
-        queue,
-        sum: checksum::number(sum, back.count),
+        queue: back.queue,
+        sum: run.sum.with(back.answer).with(back.token).with(back.count),
         last: run.last,
     }
 }
@@ -186,11 +179,9 @@ fn repeat(
     asked: Asked,
 ) -> Run {
     let mut run = begun;
-    let mut i = 0;
-    while i < asked.rounds {
+    for i in 0..asked.rounds {
         pieces::lay_first(addresses, lengths, i, asked.first);
         run = one_round(run, ring, tokens, counts, addresses, lengths, i, asked);
-        i += 1;
     }
     run
 }
@@ -204,9 +195,9 @@ fn answer(
     asked: Asked,
 ) -> u64 {
     pieces::lay_out(addresses, lengths, asked.behind);
-    let begun = start(tokens.len());
+    let begun = Run::start(tokens.len());
     let run = repeat(begun, ring, tokens, counts, addresses, lengths, asked);
-    end(run, ring)
+    run.end(ring)
 }
 
 // What is asked of a ring of so many slots, each packet in so many pieces.

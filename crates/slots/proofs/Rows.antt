@@ -1,13 +1,6 @@
 -- A row of slots stored round a ring: each reads back, and every slot outside the row reads as before.
 -- Assumes nothing.
-use Prim.Native.Nat.{ℕ, zero, suc, ◌+◌, ◌*◌, ◌≤◌, ◌<◌}
-use mathlib.Core.Path.{◌≡◌, refl, ◌∙◌}
-use mathlib.Core.Logic.{◌≢◌, ⊎_elim}
-use mathlib.Core.List.{List}
-use native.Mathlib.Nat.{mod-lt, eq-or-lt_of_le}
-use native.Mathlib.Numerals.{add-one}
-use native.Mathlib.Omega.{arith}
-use lib.ListN.{length}
+use Rattle.std.proofs.Common.{ℕ, zero, suc, ◌+◌, ◌*◌, ◌≤◌, ◌<◌, ◌≡◌, refl, ◌∙◌, ◌≢◌, ⊎_elim, List, mod-lt, eq-or-lt_of_le, add-one, arith, length}
 use Rattle.slots.specs.Slots.{slot_at}
 use Rattle.slots.specs.Memory.{store, numbers_at, store_run}
 use Rattle.slots.proofs.Steps.{apart}

@@ -1,14 +1,8 @@
 -- A run of slots as a list, the oldest first, whatever is read of a slot: its length, a slot of it, its parts, and what a change of one slot does to it.
 -- Assumes nothing.
-use Prim.Native.Nat.{ℕ, zero, suc, ◌+◌, ◌-◌, ◌%◌, ◌≤◌, ◌<◌}
-use mathlib.Core.Path.{◌≡◌, refl, sym, ap, ◌∙◌}
-use mathlib.Core.Logic.{◌≢◌}
-use mathlib.Core.List.{List, [], ◌∷◌, ◌++◌}
-use native.Mathlib.Nat.{mod-mod, suc-mod, add-suc, suc-add, add-zero, sub-zero, zero-sub, suc-sub-suc}
+use Rattle.std.proofs.Common.{ℕ, zero, suc, ◌+◌, ◌-◌, ◌%◌, ◌≤◌, ◌<◌, ◌≡◌, refl, sym, ap, ◌∙◌, ◌≢◌, List, [], ◌∷◌, ◌++◌, add-suc, suc-add, add-zero, arith, length, get_or, set, take, drop, length-set, get_or-set_same, get_or-set_other, ext_get_or}
+use native.Mathlib.Nat.{mod-mod, suc-mod, sub-zero, zero-sub, suc-sub-suc}
 use native.Mathlib.Decide.{ℕ_discrete}
-use native.Mathlib.Omega.{arith}
-use lib.ListN.{length, get_or, set, take, drop, length-set}
-use lib.Seq.{get_or-set_same, get_or-set_other, ext_get_or}
 use Rattle.slots.specs.Slots.{slot_at, run}
 use Rattle.slots.proofs.Steps.{apart}
 

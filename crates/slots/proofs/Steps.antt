@@ -1,11 +1,8 @@
 -- The step round a ring: a slot number is below the size, steps add up, two distances below a lap give two slots, and distance and slot undo each other.
 -- Assumes nothing.
-use Prim.Native.Nat.{ℕ, ◌+◌, ◌-◌, ◌%◌, ◌≤◌, ◌<◌}
-use mathlib.Core.Path.{◌≡◌, sym, ap, ◌∙◌}
-use mathlib.Core.Logic.{◌≢◌, ◌⊎◌, inl, inr, ⊎_elim}
-use native.Mathlib.Nat.{add-zero, mod-lt, mod-add-mod, mod-eq_of_lt, mod-eq-sub-mod}
+use Rattle.std.proofs.Common.{ℕ, ◌+◌, ◌-◌, ◌%◌, ◌≤◌, ◌<◌, ◌≡◌, sym, ap, ◌∙◌, ◌≢◌, ◌⊎◌, inl, inr, ⊎_elim, add-zero, mod-lt, mod-eq_of_lt, arith}
+use native.Mathlib.Nat.{mod-add-mod, mod-eq-sub-mod}
 use native.Mathlib.Decide.{dec_lt}
-use native.Mathlib.Omega.{arith}
 use Rattle.slots.specs.Slots.{slot_at, distance, most_slots}
 use Rattle.slots.specs.Steps.{Step, SlotIs}
 

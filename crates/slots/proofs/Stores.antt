@@ -1,14 +1,8 @@
 -- Slots in memory, over the width: reading after storing, the same slot and another; stores of two slots change places.
 -- Assumes nothing.
-use Prim.Native.Nat.{ℕ, zero, suc, ◌+◌, ◌*◌, ◌≤◌, ◌<◌}
-use mathlib.Core.Path.{◌≡◌, refl, sym, ap, ◌∙◌}
-use mathlib.Core.Logic.{◌≢◌, ◌⊎◌, inl, inr, ⊎_elim}
-use mathlib.Core.List.{List, [], ◌∷◌}
-use native.Mathlib.Nat.{add-zero, mul-suc, mul-le-mul_left}
+use Rattle.std.proofs.Common.{ℕ, zero, suc, ◌+◌, ◌*◌, ◌≤◌, ◌<◌, ◌≡◌, refl, sym, ap, ◌∙◌, ◌≢◌, ◌⊎◌, inl, inr, ⊎_elim, List, [], ◌∷◌, add-zero, mul-suc, mul-le-mul_left, arith, length, get_or, set, length-set, get_or-set_same, get_or-set_other, ext_get_or}
 use native.Mathlib.Decide.{dec_lt}
-use native.Mathlib.Omega.{arith}
-use lib.ListN.{length, get_or, set, length-set}
-use lib.Seq.{get_or-set_same, get_or-set_other, set_comm, ext_get_or}
+use lib.Seq.{set_comm}
 use Rattle.slots.specs.Memory.{store_from, read_from, store, numbers_at}
 
 -- ---- numbers one after another

@@ -1,1 +1,1 @@
-mod Sofar
+pub mod Sofar

@@ -1,14 +1,11 @@
 -- Exact causes: each number is answered exactly if its cause holds and no earlier one does (`Answers` of rules, both ways). A send
 -- refused with 3 is accepted once there are slots enough, and 8 is no matter of a plain send.
 -- Assumes nothing.
-use Prim.Native.Nat.{ℕ, zero, suc, ◌+◌, ◌≤◌, ◌<◌}
-use mathlib.Core.Path.{◌≡◌, refl, ap, ◌∙◌}
-use mathlib.Core.Logic.{◌≢◌}
-use mathlib.Core.Bool.{Bool, true, false, not, ◌&&◌}
-use mathlib.Core.List.{List, [], ◌∷◌}
-use native.Mathlib.Omega.{arith}
+use Rattle.std.proofs.Common.{◌≡◌, ◌≢◌, ℕ, zero, suc, ◌+◌, ◌≤◌, ◌<◌, Bool, true, false, not, ◌&&◌, List, [], ◌∷◌, Err, refl, ap, ◌∙◌, arith}
 use borrow.Author.Tests.{not-false}
-use Rattle.rules.specs.Rules.{Check, ◌when◌, answer_of, nth, Answers}
+use Rattle.rules.specs.declared.Refusal.TheVariants.{WrongRecord, NoRoom}
+use Rattle.rules.specs.Rules.{Answer, done, number_of, Check, ◌when◌, answer_of, nth, Answers}
+use Rattle.rules.proofs.Answers.{refused_is}
 use Rattle.rules.proofs.Checks.{has_cause, is_answered, one_check, passed, passes}
 use Rattle.ring.specs.Sizes.{queue_ok, most_count}
 use Rattle.ring.specs.Queue.{ever_posted, free_slots}
@@ -29,13 +26,13 @@ use Rattle.transmit.proofs.Laws.{lent_same}
 pub fresh_answer : (queue size frame : ℕ) → (fresh_of queue size frame).answer ≡ answer_of (1 when not (queue_ok queue size && frame_ok frame) ∷ [])
 unfolding fresh_of record_ok
 fresh_answer queue size frame =
-    one_check (λ (f : Fresh). f.answer) (record_ok (empty_queue queue size frame)) (record { answer = 0; queue = empty_queue queue size frame }) (record { answer = 1; queue = empty_queue 0 0 0 }) refl refl
+    one_check (λ (f : Fresh). f.answer) (record_ok (empty_queue queue size frame)) (record { answer = done; queue = empty_queue queue size frame }) (record { answer = Err WrongRecord; queue = empty_queue 0 0 0 }) refl refl
     ∙ ap (λ (ok : Bool). answer_of (1 when not (ok && frame_ok frame) ∷ [])) (empty_ok queue size)
 
 -- ---- reclaim: 1, 4, 5, 4
 
-module _ (q : TxQueue) (ring tokens counts : List ℕ) (n : ℕ) where
-  pub reclaim_cause : reclaim_answer q ring tokens counts ≡ n → n ≢ 0 → (i : ℕ) × Answers (reclaim_checks q ring tokens counts) n i
+module _ (q : TxQueue) (ring tokens counts : List ℕ) (n : Answer) where
+  pub reclaim_cause : reclaim_answer q ring tokens counts ≡ n → n ≢ done → (i : ℕ) × Answers (reclaim_checks q ring tokens counts) n i
   unfolding reclaim_answer
   reclaim_cause e ne = has_cause (reclaim_checks q ring tokens counts) n e ne
 
@@ -49,29 +46,29 @@ module _ (q : TxQueue) (ring_length tokens_length counts_length : ℕ) (addresse
   abbrev its_checks : List Check
   its_checks = send_checks q ring_length tokens_length counts_length addresses lengths request
 
-  pub send_cause : (n : ℕ) → send_answer q ring_length tokens_length counts_length addresses lengths request ≡ n → n ≢ 0
+  pub send_cause : (n : Answer) → send_answer q ring_length tokens_length counts_length addresses lengths request ≡ n → n ≢ done
       → (i : ℕ) × Answers (send_checks q ring_length tokens_length counts_length addresses lengths request) n i
   unfolding send_answer
   send_cause n e ne = has_cause its_checks n e ne
 
-  pub send_answered : (n i : ℕ) → Answers (send_checks q ring_length tokens_length counts_length addresses lengths request) n i
+  pub send_answered : (n : Answer) (i : ℕ) → Answers (send_checks q ring_length tokens_length counts_length addresses lengths request) n i
       → send_answer q ring_length tokens_length counts_length addresses lengths request ≡ n
   unfolding send_answer
   send_answered n i a = is_answered its_checks n i a
 
   -- no segment of an accepted plain send would touch more than 8 pieces
-  pub plain_never_over : send_answer q ring_length tokens_length counts_length addresses lengths request ≡ 0 → request.segmented ≡ false
+  pub plain_never_over : send_answer q ring_length tokens_length counts_length addresses lengths request ≡ done → request.segmented ≡ false
       → (header mss tlen k : ℕ) → touched lengths header mss tlen k ≤ most_touched
   unfolding send_answer
   plain_never_over e f = plain_touches addresses lengths q.frame request (not-false _ (passed its_checks tt e 1)) f
 
   -- no check but the last answers 3
-  by_last : (i : ℕ) → Answers its_checks 3 i → (j : ℕ) → j < 5 → (nth its_checks j).cause ≡ false
-  by_last zero a = absurd (omega (arith, a.number_is))
-  by_last (suc zero) a = absurd (omega (arith, a.number_is))
-  by_last (suc (suc zero)) a = absurd (omega (arith, a.number_is))
-  by_last (suc (suc (suc zero))) a = absurd (omega (arith, a.number_is))
-  by_last (suc (suc (suc (suc zero)))) a = absurd (omega (arith, a.number_is))
+  by_last : (i : ℕ) → Answers its_checks (Err NoRoom) i → (j : ℕ) → j < 5 → (nth its_checks j).cause ≡ false
+  by_last zero a = absurd (omega (arith, ap number_of a.answer_is))
+  by_last (suc zero) a = absurd (omega (arith, ap number_of a.answer_is))
+  by_last (suc (suc zero)) a = absurd (omega (arith, ap number_of a.answer_is))
+  by_last (suc (suc (suc zero))) a = absurd (omega (arith, ap number_of a.answer_is))
+  by_last (suc (suc (suc (suc zero)))) a = absurd (omega (arith, ap number_of a.answer_is))
   by_last (suc (suc (suc (suc (suc zero))))) a = a.none_before
   by_last (suc (suc (suc (suc (suc (suc i)))))) a = absurd (omega (arith, a.within_list))
 
@@ -91,6 +88,6 @@ module _ (q : TxQueue) (ring_length tokens_length counts_length : ℕ) (addresse
     all_pass before (suc (suc (suc (suc (suc zero))))) = has_room q'.shared (slots_taken request lengths) room count_room
     all_pass before (suc (suc (suc (suc (suc (suc j)))))) = refl
 
-    pub retry : send_answer q ring_length tokens_length counts_length addresses lengths request ≡ 3 → send_answer q' ring_length tokens_length counts_length addresses lengths request ≡ 0
+    pub retry : send_answer q ring_length tokens_length counts_length addresses lengths request ≡ Err NoRoom → send_answer q' ring_length tokens_length counts_length addresses lengths request ≡ done
     unfolding send_answer
-    retry e = let a = has_cause its_checks 3 e (λ z. omega arith) in passes now_asked (all_pass (by_last a.0 a.1))
+    retry e = let a = has_cause its_checks (Err NoRoom) e (λ z. refused_is (Err NoRoom) refl z) in passes now_asked (all_pass (by_last a.0 a.1))

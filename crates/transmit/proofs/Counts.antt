@@ -1,8 +1,7 @@
 -- What the calls make of the counts. A send adds its slots to those ever posted, and a reclaim its count to those ever handed back; a refused
 -- call adds none, since it tells of none.
 -- Assumes nothing.
-use Prim.Native.Nat.{ℕ}
-use mathlib.Core.List.{List}
+use Rattle.std.proofs.Common.{ℕ, List}
 use Rattle.ring.specs.Counts.{Moved}
 use Rattle.ring.proofs.Counts.{stay, by_grown, by_advanced}
 use Rattle.request.specs.declared.Request.{Request}

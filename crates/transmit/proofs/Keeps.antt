@@ -1,16 +1,10 @@
 -- What the calls leave: the record given back is accepted again, a refused call changes nothing, and a send leaves every slot but
 -- those that it takes as it was, the device's among them.
 -- Assumes nothing.
-use Prim.Native.Nat.{ℕ, ◌+◌, ◌≤◌, ◌<◌}
-use mathlib.Core.Path.{◌≡◌, refl, ◌∙◌}
-use mathlib.Core.Logic.{◌≢◌, ◌⊎◌, inl, ⊎_elim}
-use mathlib.Core.Bool.{Bool, true, false, cond}
-use mathlib.Core.List.{List}
-use native.Mathlib.Omega.{arith}
-use borrow.Author.Tests.{eqb-true, ne_eqb}
-use lib.Dec.{eqb}
-use lib.ListN.{length, set, length-set}
-use lib.Seq.{get_or-set_other}
+use Rattle.std.proofs.Common.{◌≡◌, ◌≢◌, ◌⊎◌, ℕ, ◌+◌, ◌≤◌, ◌<◌, Bool, true, false, cond, List, length, set, Err, is_ok, refl, ◌∙◌, inl, ⊎_elim, arith, length-set, get_or-set_other}
+use Rattle.rules.specs.declared.Refusal.TheVariants.{WrongRecord}
+use Rattle.rules.specs.Rules.{Answer, done}
+use Rattle.rules.proofs.Answers.{done_is, refused_is, refused-is_ok}
 use Rattle.ring.specs.declared.Queue.{Queue}
 use Rattle.slots.specs.Slots.{slot_at}
 use Rattle.ring.specs.Queue.{shared_ok, slot_of, tail_of, advanced, grown}
@@ -34,16 +28,16 @@ use Rattle.transmit.proofs.Laws.{lines, kept, lent_record, lent_same, sendable, 
 
 -- ---- accepted again
 
-pub fresh_keeps : (queue size frame : ℕ) → (fresh_of queue size frame).answer ≡ 0 → record_ok (fresh_of queue size frame).queue ≡ true
+pub fresh_keeps : (queue size frame : ℕ) → (fresh_of queue size frame).answer ≡ done → record_ok (fresh_of queue size frame).queue ≡ true
 unfolding fresh_of
 fresh_keeps queue size frame z = go (record_ok (empty_queue queue size frame)) refl z
   where
     given : Bool → Fresh
-    given b = cond b (record { answer = 0; queue = empty_queue queue size frame }) (record { answer = 1; queue = empty_queue 0 0 0 })
+    given b = cond b (record { answer = done; queue = empty_queue queue size frame }) (record { answer = Err WrongRecord; queue = empty_queue 0 0 0 })
 
-    go : (b : Bool) → record_ok (empty_queue queue size frame) ≡ b → (given b).answer ≡ 0 → record_ok (given b).queue ≡ true
+    go : (b : Bool) → record_ok (empty_queue queue size frame) ≡ b → (given b).answer ≡ done → record_ok (given b).queue ≡ true
     go true e a = e
-    go false e a = absurd (omega arith)
+    go false e a = absurd (refused_is (Err WrongRecord) refl a)
 
 module _ (q : TxQueue) (ok : record_ok q ≡ true) where
   -- with another shared part that keeps the shared lines
@@ -72,28 +66,28 @@ either_long false xs ys e = refl
 
 -- ---- a refused call
 
-pub reclaim_refused_lem : (q : TxQueue) (ring tokens counts : List ℕ) → reclaim_answer q ring tokens counts ≢ 0
+pub reclaim_refused_lem : (q : TxQueue) (ring tokens counts : List ℕ) → reclaim_answer q ring tokens counts ≢ done
     → reclaim_of q ring tokens counts ≡ reclaim_refused q (reclaim_answer q ring tokens counts)
 unfolding reclaim_of
-reclaim_refused_lem q ring tokens counts ne = rw (ne_eqb (reclaim_answer q ring tokens counts) 0 ne)
+reclaim_refused_lem q ring tokens counts ne = rw (refused-is_ok (reclaim_answer q ring tokens counts) ne)
 
 module _ (q : TxQueue) (ring tokens counts addresses lengths : List ℕ) (request : Request) where
-  pub send_refused_lem : answer_to q ring tokens counts addresses lengths request ≢ 0 → (token : ℕ) → Unchanged q ring tokens counts addresses lengths request token
+  pub send_refused_lem : answer_to q ring tokens counts addresses lengths request ≢ done → (token : ℕ) → Unchanged q ring tokens counts addresses lengths request token
   send_refused_lem ne token =
-      let e = ne_eqb (answer_to q ring tokens counts addresses lengths request) 0 ne in
+      let e = refused-is_ok (answer_to q ring tokens counts addresses lengths request) ne in
       record { result_is = rw e; ring_same = rw e; tokens_same = rw e; counts_same = rw e }
 
   -- ---- the slots that a send does not take
 
   pub others_stay : (token k : ℕ) → k < q.shared.size → (k < q.shared.posted) ⊎ (q.shared.posted + slots_taken request lengths ≤ k) → Stays q ring tokens counts addresses lengths request token k
-  others_stay token k l out = go (eqb answer 0) refl
+  others_stay token k l out = go (is_ok answer) refl
     where
-      answer : ℕ
+      answer : Answer
       answer = answer_to q ring tokens counts addresses lengths request
 
-      go : (b : Bool) → eqb answer 0 ≡ b → Stays q ring tokens counts addresses lengths request token k
+      go : (b : Bool) → is_ok answer ≡ b → Stays q ring tokens counts addresses lengths request token k
       go true e =
-          let s = sendable q (length ring) (length tokens) (length counts) addresses lengths request (eqb-true answer 0 e) in
+          let s = sendable q (length ring) (length tokens) (length counts) addresses lengths request (done_is answer e) in
           let free : (j : ℕ) → j < slots_taken request lengths → slot_of q.shared k ≢ slot_at (tail_of q.shared) q.shared.size j = λ j h e.
           apart q.shared.head q.shared.size k (q.shared.posted + j) l (omega (arith, s.grow.room)) (λ d. ⊎_elim (λ a. omega arith) (λ a. omega arith) out)
           (e ∙ slot_on q.shared.head q.shared.size q.shared.posted j) in
@@ -112,7 +106,7 @@ module _ (q : TxQueue) (ring tokens counts addresses lengths : List ℕ) (reques
   -- ---- the lent slices
 
   abbrev accepts : Bool
-  accepts = eqb (answer_to q ring tokens counts addresses lengths request) 0
+  accepts = is_ok (answer_to q ring tokens counts addresses lengths request)
 
   -- a send leaves the slices of the lengths that they had
   pub ring_long : length (ring_after q ring tokens counts addresses lengths request) ≡ length ring

@@ -1,11 +1,9 @@
 -- The calls' statements fix their outcomes: any two that meet one are equal.
 -- Assumes nothing.
-use Prim.Native.Nat.{ℕ}
-use mathlib.Core.Path.{◌≡◌}
-use mathlib.Core.List.{List}
+use Rattle.std.proofs.Common.{◌≡◌, ℕ, List, Result}
+use Rattle.rules.specs.declared.Refusal.{Refusal}
 use Rattle.rules.specs.Outcomes.{Fixes}
 use Rattle.rules.proofs.Outcomes.{alike, equation}
-use Rattle.ring.specs.declared.Asked.{Asked}
 use Rattle.request.specs.declared.Request.{Request}
 use Rattle.transmit.specs.declared.TxQueue.{TxQueue}
 use Rattle.transmit.specs.declared.Fresh.{Fresh}
@@ -17,10 +15,10 @@ use Rattle.transmit.specs.Reclaim.{reclaim_of}
 pub fresh_alike : (queue size frame : ℕ) (a b : Fresh) → a ≡ fresh_of queue size frame → b ≡ fresh_of queue size frame → a ≡ b
 fresh_alike queue size frame = alike (equation (fresh_of queue size frame))
 
-pub tail_value_alike : (q : TxQueue) (a b : Asked) → a ≡ tail_value_of q → b ≡ tail_value_of q → a ≡ b
+pub tail_value_alike : (q : TxQueue) (a b : Result ℕ Refusal) → a ≡ tail_value_of q → b ≡ tail_value_of q → a ≡ b
 tail_value_alike q = alike (equation (tail_value_of q))
 
-pub tail_register_alike : (q : TxQueue) (a b : Asked) → a ≡ tail_register_of q → b ≡ tail_register_of q → a ≡ b
+pub tail_register_alike : (q : TxQueue) (a b : Result ℕ Refusal) → a ≡ tail_register_of q → b ≡ tail_register_of q → a ≡ b
 tail_register_alike q = alike (equation (tail_register_of q))
 
 pub reclaim_alike : (q : TxQueue) (ring tokens counts : List ℕ) (a b : Reclaimed) → a ≡ reclaim_of q ring tokens counts → b ≡ reclaim_of q ring tokens counts → a ≡ b

@@ -1,16 +1,9 @@
 -- A packet from its send to its reclaim: once it is at head and its last slot is marked, reclaim gives the token and the count that its
 -- send stored.
 -- Assumes nothing.
-use Prim.Native.Nat.{ℕ, zero, suc, ◌+◌, ◌-◌, ◌%◌, ◌≤◌, ◌<◌}
-use mathlib.Core.Path.{◌≡◌, refl, sym, ap, ◌∙◌}
-use mathlib.Core.Bool.{true, false}
-use mathlib.Core.List.{List}
-use native.Mathlib.Nat.{mod-eq_of_lt}
-use native.Mathlib.Omega.{arith}
-use borrow.Author.Tests.{eq-eqb, ne_eqb, le-ltb}
-use lib.ListN.{length, get_or}
-use lib.Seq.{get_or-set_same}
-use Rattle.rules.specs.Rules.{nth}
+use Rattle.std.proofs.Common.{◌≡◌, ℕ, zero, suc, ◌+◌, ◌-◌, ◌%◌, ◌≤◌, ◌<◌, true, false, List, length, get_or, refl, sym, ap, ◌∙◌, mod-eq_of_lt, arith, ne_eqb, le-ltb, get_or-set_same}
+use Rattle.rules.proofs.Answers.{done-is_ok}
+use Rattle.rules.specs.Rules.{done, nth}
 use Rattle.rules.proofs.Checks.{passes}
 use Rattle.ring.specs.Queue.{ever_posted, ever_returned, slot_of, tail_of, grown}
 use Rattle.ring.proofs.Record.{tail_below}
@@ -31,7 +24,7 @@ module _ (q : TxQueue) (ring tokens counts : List ℕ) where
       → reclaim_of q ring tokens counts ≡ reclaim_done q token count
   unfolding reclaim_of reclaim_answer
   reclaims count token c t l some most m =
-      rw (eq-eqb (reclaim_answer q ring tokens counts) 0 (passes (reclaim_checks q ring tokens counts) all_pass), c, t)
+      rw (done-is_ok (reclaim_answer q ring tokens counts) (passes (reclaim_checks q ring tokens counts) all_pass), c, t)
     where
       all_pass : (i : ℕ) → (nth (reclaim_checks q ring tokens counts) i).cause ≡ false
       all_pass zero = rw l
@@ -41,9 +34,9 @@ module _ (q : TxQueue) (ring tokens counts : List ℕ) where
       all_pass (suc (suc (suc (suc i)))) = refl
 
 module _ (q : TxQueue) (ring tokens counts addresses lengths : List ℕ) (request : Request)
-    (done : answer_to q ring tokens counts addresses lengths request ≡ 0) where
+    (accepted : answer_to q ring tokens counts addresses lengths request ≡ done) where
   facts : Sendable q (length ring) (length tokens) (length counts) addresses lengths request
-  facts = sendable q (length ring) (length tokens) (length counts) addresses lengths request done
+  facts = sendable q (length ring) (length tokens) (length counts) addresses lengths request accepted
 
   tail_is_slot : tail_of q.shared < q.shared.size
   tail_is_slot = tail_below q.shared facts.lent_is.is.shared_is
@@ -51,12 +44,12 @@ module _ (q : TxQueue) (ring tokens counts addresses lengths : List ℕ) (reques
   -- an accepted send stores its token and its slot count at the packet's first slot, the old tail
   pub token_stored : (token : ℕ) → get_or (tokens_after q ring tokens counts addresses lengths request token) (tail_of q.shared) 0 ≡ token
   token_stored token =
-      rw (eq-eqb (answer_to q ring tokens counts addresses lengths request) 0 done)
+      rw (done-is_ok (answer_to q ring tokens counts addresses lengths request) accepted)
       (get_or-set_same tokens (tail_of q.shared) token 0 (omega (arith, tail_is_slot, facts.lent_is.tokens_long)))
 
   pub count_stored : get_or (counts_after q ring tokens counts addresses lengths request) (tail_of q.shared) 0 ≡ slots_taken request lengths
   count_stored =
-      rw (eq-eqb (answer_to q ring tokens counts addresses lengths request) 0 done)
+      rw (done-is_ok (answer_to q ring tokens counts addresses lengths request) accepted)
       (get_or-set_same counts (tail_of q.shared) (slots_taken request lengths) 0 (omega (arith, tail_is_slot, facts.lent_is.counts_long)))
 
   -- a later record whose head is the packet's first slot, and lent lists that still have what the send stored there
@@ -76,7 +69,7 @@ module _ (q : TxQueue) (ring tokens counts addresses lengths : List ℕ) (reques
   pub first_reclaimed : (token : ℕ) → q.shared.posted ≡ 0 → (ring' : List ℕ) → length ring' ≡ length ring → is_marked ring' (slot_of q.shared (slots_taken request lengths - 1)) ≡ true
       → reclaim_of (moved_to q (grown q.shared (slots_taken request lengths))) ring' (tokens_after q ring tokens counts addresses lengths request token) (counts_after q ring tokens counts addresses lengths request)
       ≡ record {
-        answer = 0;
+        answer = done;
         queue = moved_to q (record {
           queue = q.shared.queue;
           size = q.shared.size;
@@ -94,7 +87,7 @@ module _ (q : TxQueue) (ring tokens counts addresses lengths : List ℕ) (reques
       sent_reclaimed token (moved_to q (grown q.shared (slots_taken request lengths))) ring' _ _ lent_on at_head (omega arith) refl refl m ∙ rw none
     where
       sent_queue : (send_of q ring tokens counts addresses lengths request).queue ≡ moved_to q (grown q.shared (slots_taken request lengths))
-      sent_queue = rw (eq-eqb (answer_to q ring tokens counts addresses lengths request) 0 done)
+      sent_queue = rw (done-is_ok (answer_to q ring tokens counts addresses lengths request) accepted)
 
       lent_on : lent_ok (moved_to q (grown q.shared (slots_taken request lengths))) (length ring') (length (tokens_after q ring tokens counts addresses lengths request token)) (length (counts_after q ring tokens counts addresses lengths request)) ≡ true
       lent_on = rw (← sent_queue, e ∙ sym (ring_long q ring tokens counts addresses lengths request)) (send_lends q ring tokens counts addresses lengths request facts.lent_is_ok token)

@@ -1,14 +1,9 @@
 -- Read-back: in the ring that an accepted send leaves, the slots from the old tail on give back its pieces in order and its offload
 -- request. Its last slot is not marked done, whatever stood there before.
 -- Assumes nothing.
-use Prim.Native.Nat.{ℕ, ◌+◌, ◌-◌, ◌^◌, ◌<◌}
-use mathlib.Core.Path.{◌≡◌, refl, sym, ap, ap₂, ◌∙◌}
-use mathlib.Core.Bool.{Bool, true, false, cond}
-use mathlib.Core.List.{List}
-use native.Mathlib.Omega.{arith}
-use borrow.Author.Tests.{eq-eqb}
-use lib.Dec.{eqb}
-use lib.ListN.{length, get_or}
+use Rattle.std.proofs.Common.{◌≡◌, ℕ, ◌+◌, ◌-◌, ◌^◌, ◌<◌, Bool, true, false, cond, List, eqb, length, get_or, refl, sym, ap, ap₂, ◌∙◌, arith}
+use Rattle.rules.specs.Rules.{done}
+use Rattle.rules.proofs.Answers.{done-is_ok}
 use Rattle.slots.specs.Slots.{slot_at}
 use Rattle.ring.specs.Queue.{tail_of}
 use Rattle.slots.specs.Memory.{numbers_at, store_run}
@@ -32,9 +27,9 @@ use Rattle.transmit.specs.ReadBack.{word0, word1, is_context, request_at, piece_
 use Rattle.transmit.proofs.Laws.{Sendable, sendable}
 
 module _ (q : TxQueue) (ring tokens counts addresses lengths : List ℕ) (request : Request)
-    (done : answer_to q ring tokens counts addresses lengths request ≡ 0) (after : List ℕ) (left : after ≡ ring_after q ring tokens counts addresses lengths request) where
+    (accepted : answer_to q ring tokens counts addresses lengths request ≡ done) (after : List ℕ) (left : after ≡ ring_after q ring tokens counts addresses lengths request) where
   facts : Sendable q (length ring) (length tokens) (length counts) addresses lengths request
-  facts = sendable q (length ring) (length tokens) (length counts) addresses lengths request done
+  facts = sendable q (length ring) (length tokens) (length counts) addresses lengths request accepted
 
   abbrev n : ℕ
   n = length lengths
@@ -44,7 +39,7 @@ module _ (q : TxQueue) (ring tokens counts addresses lengths : List ℕ) (reques
   first = tail_of q.shared
 
   after_is : after ≡ store_run 2 q.shared.size (descriptor request addresses lengths) ring first (slots_of request n)
-  after_is = left ∙ rw (eq-eqb (answer_to q ring tokens counts addresses lengths request) 0 done)
+  after_is = left ∙ rw (done-is_ok (answer_to q ring tokens counts addresses lengths request) accepted)
 
   -- the slot that is k slots after the old tail has descriptor k
   pub slot_reads : (k : ℕ) → k < slots_taken request lengths → numbers_at 2 after (slot_at (tail_of q.shared) q.shared.size k) ≡ descriptor request addresses lengths k

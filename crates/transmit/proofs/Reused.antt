@@ -1,12 +1,10 @@
 -- Reclaimed slots are used again: a reclaim that is done raises the free slots by its count, and a send that was refused with 3 passes
 -- once they reach what it needs, if the count has room.
 -- Assumes nothing.
-use Prim.Native.Nat.{ℕ, ◌+◌, ◌-◌, ◌≤◌}
-use mathlib.Core.Path.{◌≡◌, ap}
-use mathlib.Core.List.{List}
-use native.Mathlib.Omega.{arith}
-use borrow.Author.Tests.{eq-eqb}
-use lib.ListN.{length}
+use Rattle.std.proofs.Common.{◌≡◌, ℕ, ◌+◌, ◌-◌, ◌≤◌, List, length, Err, ap, arith}
+use Rattle.rules.specs.declared.Refusal.TheVariants.{NoRoom}
+use Rattle.rules.specs.Rules.{done}
+use Rattle.rules.proofs.Answers.{done-is_ok}
 use Rattle.ring.specs.Sizes.{most_count}
 use Rattle.ring.specs.Queue.{ever_posted, free_slots}
 use Rattle.request.specs.declared.Request.{Request}
@@ -19,16 +17,16 @@ use Rattle.transmit.proofs.Laws.{lent_record, Reclaimable, reclaimable, by_recla
 use Rattle.transmit.proofs.Causes.{retry}
 use Rattle.transmit.proofs.Keeps.{reclaim_keeps}
 
-module _ (q : TxQueue) (ring tokens counts : List ℕ) (done : (reclaim_of q ring tokens counts).answer ≡ 0) where
-  passes : reclaim_answer q ring tokens counts ≡ 0
-  passes = by_reclaim q ring tokens counts (λ (r : Reclaimed). r.answer ≡ 0 → reclaim_answer q ring tokens counts ≡ 0) (λ z d. z) (λ d. d) done
+module _ (q : TxQueue) (ring tokens counts : List ℕ) (given_back : (reclaim_of q ring tokens counts).answer ≡ done) where
+  passes : reclaim_answer q ring tokens counts ≡ done
+  passes = by_reclaim q ring tokens counts (λ (r : Reclaimed). r.answer ≡ done → reclaim_answer q ring tokens counts ≡ done) (λ z d. z) (λ d. d) given_back
 
   facts : Reclaimable q ring tokens counts
   facts = reclaimable q ring tokens counts passes
 
   is_done : reclaim_of q ring tokens counts ≡ reclaim_done q (token_at q tokens) (count_at q.shared counts)
   unfolding reclaim_of
-  is_done = rw (eq-eqb (reclaim_answer q ring tokens counts) 0 passes)
+  is_done = rw (done-is_ok (reclaim_answer q ring tokens counts) passes)
 
   pub reclaim_frees : Freed q (reclaim_of q ring tokens counts)
   reclaim_frees =
@@ -45,10 +43,10 @@ module _ (q : TxQueue) (ring tokens counts : List ℕ) (done : (reclaim_of q rin
 
   -- tried again on the record that the reclaim gave back, with slices of any lengths
   pub used_again : (ring_length tokens_length counts_length : ℕ) (addresses lengths : List ℕ) (request : Request)
-      → send_answer q ring_length tokens_length counts_length addresses lengths request ≡ 3
+      → send_answer q ring_length tokens_length counts_length addresses lengths request ≡ Err NoRoom
       → slots_taken request lengths ≤ free_slots q.shared + (reclaim_of q ring tokens counts).count
       → ever_posted q.shared + slots_taken request lengths ≤ most_count
-      → send_answer (reclaim_of q ring tokens counts).queue ring_length tokens_length counts_length addresses lengths request ≡ 0
+      → send_answer (reclaim_of q ring tokens counts).queue ring_length tokens_length counts_length addresses lengths request ≡ done
   used_again ring_length tokens_length counts_length addresses lengths request refused enough count_room =
       let f = reclaim_frees in
       retry q ring_length tokens_length counts_length addresses lengths request (reclaim_of q ring tokens counts).queue f.accepted f.size_same f.frame_same (omega (arith, f.more)) (rw f.posted_same count_room) refused

@@ -1,10 +1,11 @@
 -- The transmit queue record (01, "The queue record"): the shared part and the maximum frame, the lines that they keep, a fresh queue,
 -- the tail.
 -- Assumes nothing.
-use Rattle.std.specs.Prelude.{ℕ, ◌*◌, Bool, ◌&&◌, cond, eqb}
-use Rattle.rules.specs.Rules.{within}
+use Rattle.std.specs.Prelude.{ℕ, ◌*◌, Bool, ◌&&◌, cond, eqb, Result, Err}
+use Rattle.rules.specs.Rules.{within, done}
+use Rattle.rules.specs.declared.Refusal.{Refusal}
+use Rattle.rules.specs.declared.Refusal.TheVariants.{WrongRecord}
 use Rattle.ring.specs.declared.Queue.{Queue}
-use Rattle.ring.specs.declared.Asked.{Asked}
 use Rattle.ring.specs.Queue as Ring
 use Rattle.ring.specs.Queue.{shared_ok, tail_of, asked_of, register_at}
 use Rattle.transmit.specs.declared.TxQueue.{TxQueue}
@@ -40,12 +41,12 @@ empty_queue queue size frame = record { shared = Ring.empty_queue queue size; fr
 unfoldable pub fresh_of : ℕ → ℕ → ℕ → Fresh
 fresh_of queue size frame =
     cond (record_ok (empty_queue queue size frame))
-    (record { answer = 0; queue = empty_queue queue size frame })
-    (record { answer = 1; queue = empty_queue 0 0 0 })
+    (record { answer = done; queue = empty_queue queue size frame })
+    (record { answer = Err WrongRecord; queue = empty_queue 0 0 0 })
 
 -- the tail value, and the tail register at 4 x queue
-abbrev pub tail_value_of : TxQueue → Asked
+abbrev pub tail_value_of : TxQueue → Result ℕ Refusal
 tail_value_of q = asked_of (record_ok q) (tail_of q.shared)
 
-abbrev pub tail_register_of : TxQueue → Asked
+abbrev pub tail_register_of : TxQueue → Result ℕ Refusal
 tail_register_of q = asked_of (record_ok q) (register_at 0 q.shared.queue)

@@ -1,7 +1,7 @@
 -- Send (01, "Sending"): its checks in their order, the record and the lent memory after it.
 -- Assumes nothing.
-use Rattle.std.specs.Prelude.{ℕ, ◌≡◌, not, cond, List, [], ◌∷◌, ◌++◌, eqb, length, get_or, set}
-use Rattle.rules.specs.Rules.{Check, ◌when◌, answer_of}
+use Rattle.std.specs.Prelude.{ℕ, ◌≡◌, not, cond, List, [], ◌∷◌, ◌++◌, length, get_or, set, is_ok}
+use Rattle.rules.specs.Rules.{Answer, done, Check, ◌when◌, answer_of}
 use Rattle.slots.specs.Memory.{numbers_at, store_run}
 use Rattle.ring.specs.Queue.{slot_of, tail_of, no_room, grown}
 use Rattle.request.specs.declared.Request.{Request}
@@ -23,36 +23,36 @@ send_checks q ring_length tokens_length counts_length addresses lengths request 
     (1 when not (lent_ok q ring_length tokens_length counts_length))
     ∷ (packet_checks addresses lengths q.frame request ++ (3 when no_room q.shared (slots_taken request lengths) ∷ []))
 
-unfoldable pub send_answer : TxQueue → ℕ → ℕ → ℕ → List ℕ → List ℕ → Request → ℕ
+unfoldable pub send_answer : TxQueue → ℕ → ℕ → ℕ → List ℕ → List ℕ → Request → Answer
 send_answer q ring_length tokens_length counts_length addresses lengths request =
     answer_of (send_checks q ring_length tokens_length counts_length addresses lengths request)
 
 -- done: posted and the slots ever posted grow by the slots, a context descriptor's among them
 abbrev pub send_done : TxQueue → ℕ → Sent
-send_done q slots = record { answer = 0; queue = moved_to q (grown q.shared slots); slots = slots }
+send_done q slots = record { answer = done; queue = moved_to q (grown q.shared slots); slots = slots }
 
 -- refused: the record as it came, and no slots
-abbrev pub send_refused : TxQueue → ℕ → Sent
+abbrev pub send_refused : TxQueue → Answer → Sent
 send_refused q n = record { answer = n; queue = q; slots = 0 }
 
 module _ (q : TxQueue) (ring tokens counts addresses lengths : List ℕ) (request : Request) where
   -- the answer, with these slices lent
-  abbrev pub answer_to : ℕ
+  abbrev pub answer_to : Answer
   answer_to = send_answer q (length ring) (length tokens) (length counts) addresses lengths request
 
   abbrev pub send_of : Sent
-  send_of = cond (eqb answer_to 0) (send_done q (slots_taken request lengths)) (send_refused q answer_to)
+  send_of = cond (is_ok answer_to) (send_done q (slots_taken request lengths)) (send_refused q answer_to)
 
   -- the descriptors from the tail upward, the token and the slot count at the packet's first slot; all other places stay
   abbrev pub ring_after : List ℕ
   ring_after =
-      cond (eqb answer_to 0) (store_run 2 q.shared.size (descriptor request addresses lengths) ring (tail_of q.shared) (slots_taken request lengths)) ring
+      cond (is_ok answer_to) (store_run 2 q.shared.size (descriptor request addresses lengths) ring (tail_of q.shared) (slots_taken request lengths)) ring
 
   abbrev pub tokens_after : ℕ → List ℕ
-  tokens_after token = cond (eqb answer_to 0) (set tokens (tail_of q.shared) token) tokens
+  tokens_after token = cond (is_ok answer_to) (set tokens (tail_of q.shared) token) tokens
 
   abbrev pub counts_after : List ℕ
-  counts_after = cond (eqb answer_to 0) (set counts (tail_of q.shared) (slots_taken request lengths)) counts
+  counts_after = cond (is_ok answer_to) (set counts (tail_of q.shared) (slots_taken request lengths)) counts
 
   -- all that send returns and leaves
   pub record SentAs (token : ℕ) (r : Sent) (ring' tokens' counts' : List ℕ) : Type 0 where

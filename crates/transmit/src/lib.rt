@@ -6,31 +6,33 @@ mod reclaim;
 mod send;
 
 use ring::Queue;
+use rules::Answer;
 
 // What the receive queue has too, and the maximum frame, which is the transmit queue's own.
-#[derive(Clone, Copy)]
+#[derive(Clone, Copy, Debug, PartialEq, Eq)]
 pub struct TxQueue {
     pub shared: Queue,
     pub frame: usize,
 }
 
-#[derive(Clone, Copy)]
+// Kept: 01 has zeros in all other result fields beside a refusal, so Fresh, Sent and Reclaimed have theirs beside the answer.
+#[derive(Clone, Copy, Debug, PartialEq, Eq)]
 pub struct Fresh {
-    pub answer: u8,
+    pub answer: Answer,
     pub queue: TxQueue,
 }
 
 // The slots that an accepted send took.
-#[derive(Clone, Copy)]
+#[derive(Clone, Copy, Debug, PartialEq, Eq)]
 pub struct Sent {
-    pub answer: u8,
+    pub answer: Answer,
     pub queue: TxQueue,
     pub slots: usize,
 }
 
-#[derive(Clone, Copy)]
+#[derive(Clone, Copy, Debug, PartialEq, Eq)]
 pub struct Reclaimed {
-    pub answer: u8,
+    pub answer: Answer,
     pub queue: TxQueue,
     pub token: u64,
     pub count: usize,

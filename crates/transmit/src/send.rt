@@ -8,6 +8,7 @@ use crate::{Sent, TxQueue};
 use fill::put_descriptors;
 use packet::judge;
 use request::Request;
+use rules::{Answer, Refusal};
 
 // The slots that so many pieces take.
 fn slots_of(request: Request, pieces: usize) -> usize
@@ -22,6 +23,7 @@ fn slots_of(request: Request, pieces: usize) -> usize
 }
 
 impl TxQueue {
+    #[tactic(auto, unfolding(crate::specs::Send::send_answer))]
     fn send_answer(
         self,
         ring_length: usize,
@@ -30,26 +32,21 @@ impl TxQueue {
         addresses: &[u64],
         lengths: &[u64],
         request: Request,
-    ) -> u8
+    ) -> Answer
         ensures { result ≡ send_answer self ring_length tokens_length counts_length addresses.now lengths.now request }
     {
-        if self.lent_ok(ring_length, tokens_length, counts_length) {
-            let own = judge(addresses, lengths, self.frame as u64, request);
-            if own == 0 {
-                if self.shared.no_room(slots_of(request, lengths.len())) {
-                    3
-                } else {
-                    0
-                }
-            } else {
-                own
-            }
-        } else {
-            1
+        if !self.lent_ok(ring_length, tokens_length, counts_length) {
+            return Err(Refusal::WrongRecord);
         }
+        judge(addresses, lengths, self.frame as u64, request)?;
+        if self.shared.no_room(slots_of(request, lengths.len())) {
+            return Err(Refusal::NoRoom);
+        }
+        Ok(())
     }
 
     // Answers 1, 6, 2, 7, 8 or 3, the first whose cause holds, or 0; a refusal changes nothing.
+    // Kept: 01 lends the ring and two companion lists, and has "the covered two-slice send": these slices, and their lengths in `lent_ok`, go one by one.
     pub fn send(
         self,
         ring: &mut [u64],
@@ -70,26 +67,25 @@ impl TxQueue {
             lengths,
             request,
         );
-        if answer == 0 {
-            let tail = self.shared.tail();
-            let slots = slots_of(request, lengths.len());
-            put_descriptors(ring, self.shared.size, tail, addresses, lengths, request);
-            tokens[tail] = token;
-            counts[tail] = slots as u16;
-            Sent {
-                answer,
-                queue: TxQueue {
-                    shared: self.shared.grown(slots),
-                    frame: self.frame,
-                },
-                slots,
-            }
-        } else {
-            Sent {
+        if answer.is_err() {
+            return Sent {
                 answer,
                 queue: self,
                 slots: 0,
-            }
+            };
+        }
+        let tail = self.shared.tail();
+        let slots = slots_of(request, lengths.len());
+        put_descriptors(ring, self.shared.size, tail, addresses, lengths, request);
+        tokens[tail] = token;
+        counts[tail] = slots as u16;
+        Sent {
+            answer,
+            queue: TxQueue {
+                shared: self.shared.grown(slots),
+                ..self
+            },
+            slots,
         }
     }
 }

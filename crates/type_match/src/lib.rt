@@ -2,21 +2,10 @@
 #![tactic(auto)]
 
 ghost use Rattle.std.specs.Prelude.{◌≡◌};
-ghost use Rattle.packet_types.specs.Table.{told, entry_of};
+ghost use Rattle.packet_types.specs.Table.{entry_of};
 
 use family::Family;
-use packet_types::{Entry, L4};
-
-fn told(family: Family, version: u8, fragment: bool, l4: L4) -> Entry
-    ensures { result ≡ told family version fragment l4 }
-{
-    Entry {
-        family,
-        version,
-        fragment,
-        l4,
-    }
-}
+use packet_types::{Entry, L4, told};
 
 // The entry that the table has.
 #[tactic(auto, unfolding(packet_types::specs::Table::entry_of))]

@@ -1,7 +1,6 @@
 -- The calls' statements fix their outcomes: any two that meet one are equal.
 -- Assumes nothing.
-use Prim.Native.Nat.{ℕ}
-use mathlib.Core.Path.{◌≡◌}
+use Rattle.std.proofs.Common.{ℕ, ◌≡◌}
 use Rattle.rules.proofs.Outcomes.{alike, equation}
 use Rattle.packet_types.specs.declared.Entry.{Entry}
 use Rattle.verdict.specs.declared.Verdict.{Verdict}

@@ -1,13 +1,7 @@
 -- Laws of rules in their order, whatever their causes.
 -- Assumes nothing.
-use Prim.Native.Nat.{ℕ}
-use mathlib.Core.Path.{◌≡◌, refl, sym, ap, ◌∙◌}
-use mathlib.Core.Logic.{◌≢◌}
-use mathlib.Core.Bool.{Bool, true, false, not, ◌||◌, cond, true≢false}
-use mathlib.Core.List.{List, [], ◌∷◌, ◌++◌}
-use native.Mathlib.Omega.{arith}
+use Rattle.std.proofs.Common.{ℕ, ◌≡◌, refl, sym, ap, ◌∙◌, ◌≢◌, Bool, true, false, not, ◌||◌, cond, true≢false, List, [], ◌∷◌, ◌++◌, arith, eqb}
 use borrow.Author.Tests.{not-false}
-use lib.Dec.{eqb}
 use Rattle.rules.proofs.Tests.{neither}
 use Rattle.family.specs.declared.Family.TheVariants.{Unknown, Ipv4, Ipv6}
 use Rattle.family.specs.Types.{family_number}

@@ -1,10 +1,6 @@
 -- A type of Table 2-4 is judged by its IP version and its L4 kind alone: an unknown one has neither, and a fragment has no L4 kind.
 -- Assumes nothing.
-use Prim.Native.Nat.{ℕ}
-use mathlib.Core.Path.{◌≡◌, refl, sym, ◌∙◌}
-use mathlib.Core.Bool.{Bool, true, false, not, ◌||◌, cond}
-use mathlib.Core.List.{List, [], ◌∷◌}
-use lib.Dec.{eqb}
+use Rattle.std.proofs.Common.{ℕ, ◌≡◌, refl, sym, ◌∙◌, Bool, true, false, not, ◌||◌, cond, List, [], ◌∷◌, eqb}
 use Rattle.rules.specs.Rules.{Line, listed_at}
 use Rattle.packet_types.specs.declared.L4.TheVariants.{None}
 use Rattle.packet_types.specs.declared.Entry.{Entry}

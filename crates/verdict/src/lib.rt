@@ -9,7 +9,7 @@ ghost use Rattle.verdict.specs.Steps.{summed_rules, unsummed_rules};
 use packet_types::L4;
 
 // What is known of a checksum.
-#[derive(Clone, Copy)]
+#[derive(Clone, Copy, Debug, PartialEq, Eq)]
 pub enum Verdict {
     NotChecked,
     Good,
@@ -17,7 +17,7 @@ pub enum Verdict {
 }
 
 // What a write-back says of checksums: that the device processed them, what may have misled it, and its two error bits.
-#[derive(Clone, Copy)]
+#[derive(Clone, Copy, Debug, PartialEq, Eq)]
 pub struct Marks {
     pub l3l4p: bool,
     pub ipv6exadd: bool,
@@ -31,24 +31,24 @@ const IPV4: u8 = 4;
 const IPV6: u8 = 6;
 
 // A number for each verdict, for those who print it.
-pub fn verdict_number(verdict: Verdict) -> u64
-    ensures { result ≡ verdict_number verdict }
-{
-    match verdict {
-        Verdict::NotChecked => 0,
-        Verdict::Good => 1,
-        Verdict::Bad => 2,
+impl From<Verdict> for u64 {
+    ghost from_gives = { λ verdict number. number ≡ verdict_number verdict };
+
+    fn from(verdict: Verdict) -> u64 {
+        match verdict {
+            Verdict::NotChecked => 0,
+            Verdict::Good => 1,
+            Verdict::Bad => 2,
+        }
     }
 }
 
 // L3 of a packet of this IP version.
-#[tactic(auto, unfolding(crate::specs::Verdict::l3_of))]
+#[tactic(auto, using(crate::proofs::Rules::known), unfolding(crate::specs::Verdict::l3_of))]
 pub fn l3_verdict(version: u8, marks: Marks) -> Verdict
     ensures { result ≡ l3_of (typed version None) marks }
 {
-    if version != IPV4 {
-        Verdict::NotChecked
-    } else if !marks.l3l4p {
+    if version != IPV4 || !marks.l3l4p {
         Verdict::NotChecked
     } else if marks.ipe {
         Verdict::Bad
@@ -61,9 +61,7 @@ pub fn l3_verdict(version: u8, marks: Marks) -> Verdict
 fn summed(marks: Marks) -> Verdict
     ensures { result ≡ decided (summed_rules marks) }
 {
-    if !marks.l3l4p {
-        Verdict::NotChecked
-    } else if marks.ipv6exadd {
+    if !marks.l3l4p || marks.ipv6exadd {
         Verdict::NotChecked
     } else if marks.l4e {
         Verdict::Bad
@@ -76,9 +74,7 @@ fn summed(marks: Marks) -> Verdict
 fn unsummed(version: u8, marks: Marks) -> Verdict
     ensures { result ≡ decided (unsummed_rules version marks) }
 {
-    if !marks.l3l4p {
-        Verdict::NotChecked
-    } else if version == IPV4 {
+    if !marks.l3l4p || version == IPV4 {
         Verdict::NotChecked
     } else if version == IPV6 {
         Verdict::Bad
@@ -95,15 +91,8 @@ pub fn l4_verdict(version: u8, l4: L4, marks: Marks) -> Verdict
 {
     match l4 {
         L4::None => Verdict::NotChecked,
-        L4::Tcp => summed(marks),
-        L4::Sctp => summed(marks),
-        L4::Udp => {
-            if marks.int_udp_0 {
-                unsummed(version, marks)
-            } else {
-                summed(marks)
-            }
-        }
+        L4::Udp if marks.int_udp_0 => unsummed(version, marks),
+        L4::Tcp | L4::Sctp | L4::Udp => summed(marks),
         L4::Icmp => Verdict::NotChecked,
     }
 }

@@ -8,9 +8,11 @@ ghost use Rattle.scan.specs.Scan.{scan};
 ghost use Rattle.scan.specs.Told.{seen_by};
 
 use ring::Queue;
+use rules::Refusal;
 use scan::{PACKET_SLOTS, Seen, refused, slot_ok};
 
-// Answers 4 or 5 at the first slot that asks for it, or 0 with the packet.
+// Answers 4 or 5 at the first slot that asks for it, or the packet.
+// Kept: a loop of its own beside the one of burst's `packet`, since a take builds arrays here and a burst must not (docs/DECISIONS.md).
 pub fn posted(queue: Queue, buffer: usize, ring: &[u64], list: &[u64]) -> Seen
     requires { Lent queue (length ring.now) (length list.now) }
     ensures { result ≡ seen_by (scan buffer 0 (posted_slots queue ring.now list.now)) queue }
@@ -21,25 +23,23 @@ pub fn posted(queue: Queue, buffer: usize, ring: &[u64], list: &[u64]) -> Seen
     let mut addresses = [0u64; PACKET_SLOTS];
     let mut lengths = [0usize; PACKET_SLOTS];
     let mut total: usize = 0;
-    let mut k: usize = 0;
-    while k < posted {
+    for k in 0..posted {
         let at = slots::slot(head, size, k);
         let first = 2 * at;
         let word1 = ring[first + 1];
         if !places::dd(word1) {
-            return refused(queue, 4);
+            return refused(queue, Refusal::NotYet);
         }
         if slot_ok(buffer, k, word1) {
             let length = places::length(word1);
             addresses[k] = list[at];
             lengths[k] = length;
             total += length;
-            k += 1;
             if places::eop(word1) {
                 return Seen {
-                    answer: 0,
-                    queue: queue.advanced(k),
-                    count: k,
+                    answer: Ok(()),
+                    queue: queue.advanced(k + 1),
+                    count: k + 1,
                     total,
                     addresses,
                     lengths,
@@ -48,8 +48,8 @@ pub fn posted(queue: Queue, buffer: usize, ring: &[u64], list: &[u64]) -> Seen
                 };
             }
         } else {
-            return refused(queue, 5);
+            return refused(queue, Refusal::Contradiction);
         }
     }
-    refused(queue, 4)
+    refused(queue, Refusal::NotYet)
 }

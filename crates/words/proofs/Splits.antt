@@ -1,31 +1,27 @@
--- The loops over a text: where a part ends, and what words stand behind it. Assumes nothing.
-use Prim.Native.Nat.{ℕ, suc, ◌+◌, ◌-◌, ◌≤◌, ◌<◌}
-use mathlib.Core.Path.{◌≡◌, refl, ap, ◌∙◌}
-use mathlib.Core.Bool.{Bool, true, false, cond}
-use mathlib.Core.List.{List, [], ◌∷◌}
-use native.Mathlib.Omega.{arith}
-use native.Mathlib.Nat.{add-zero, suc-add}
-use native.Mathlib.Numerals.{add-one}
-use borrow.Author.Tests.{eq-eqb, ne_eqb, lt-ltb}
-use lib.Dec.{eqb, ltb}
-use lib.ListN.{length, get_or, take, drop, length-drop, drop_of_length-le}
-use lib.Seq.{drop-cons, drop-drop}
-use Rattle.decimal.proofs.Folds.{same_test}
-use Rattle.words.specs.Parts.{before_mark, end_of, in_front, words_of, words_behind}
+-- Where a part of a text ends, and what words stand behind it. Assumes nothing.
+use Rattle.std.proofs.Common.{ℕ, ◌+◌, ◌≤◌, ◌<◌, min, ◌≡◌, refl, sym, Bool, true, false, cond, List, [], ◌∷◌, eqb, ltb, length, drop, Some, None, arith, unwrap_or, position, drop_of_length-le, lt-ltb, le-ltb, ltb-false, take, ◌-◌, take_all, length-drop}
+use native.Mathlib.Decide.{dec_le}
+use native.Mathlib.Nat.{min-eq_left, min-eq_right}
+use Rattle.std.specs.List.{position_or_len, slice_split}
+use Rattle.std.proofs.lemmas.List.Recursion.{is_position_or_len}
+use Rattle.words.specs.Parts.{before_mark, end_of, words_of, words_behind, in_front}
 
-module _ (mark : ℕ) (text : List ℕ) (at : ℕ) where
-  -- past the end nothing is left
-  pub end_past : length text ≤ at → end_of mark text at ≡ at
-  unfolding end_of before_mark
-  end_past h = rw (drop_of_length-le text h, add-zero)
+-- the words are what a cut at each space gives
+pub words_split : (bs : List ℕ) → words_of bs ≡ slice_split (λ b. eqb b 32) bs
+unfolding words_of
+words_split [] = refl
+words_split (b ∷ bs) = rw (words_split bs)
 
-  pub end_here : at < length text → get_or text at 0 ≡ mark → end_of mark text at ≡ at
-  unfolding end_of before_mark
-  end_here h e = rw (drop-cons text at 0 h, eq-eqb _ _ e, add-zero)
-
-  pub end_later : at < length text → (get_or text at 0 ≡ mark → ⊥) → end_of mark text at ≡ end_of mark text (at + 1)
-  unfolding end_of before_mark
-  end_later h n = rw (drop-cons text at 0 h, ne_eqb _ _ n, add-one) (omega arith)
+-- there are no more words than bytes and one
+pub words_few : (bs : List ℕ) → length (words_of bs) ≤ length bs + 1
+unfolding words_of
+words_few [] = omega arith
+words_few (b ∷ bs) = go (eqb b 32) (words_of bs) (words_few bs)
+  where
+    go : (t : Bool) (ws : List (List ℕ)) → length ws ≤ length bs + 1 → length (cond t ([] ∷ ws) (in_front b ws)) ≤ length (b ∷ bs) + 1
+    go true ws h = omega arith
+    go false [] h = omega arith
+    go false (w ∷ ws) h = omega arith
 
 before_short : (mark : ℕ) (bs : List ℕ) → length (before_mark mark bs) ≤ length bs
 unfolding before_mark
@@ -36,39 +32,42 @@ before_short mark (b ∷ bs) = go (eqb b mark) (before_short mark bs)
     go true h = omega arith
     go false h = omega arith
 
--- the end is within the text
-pub end_inside : (mark : ℕ) (text : List ℕ) (at : ℕ) → at ≤ length text → end_of mark text at ≤ length text
-unfolding end_of
-end_inside mark text at h = omega (arith, before_short mark (drop at text), length-drop at text)
-
-pub end_behind : (mark : ℕ) (text : List ℕ) (at : ℕ) → at ≤ end_of mark text at
-unfolding end_of
-end_behind mark text at = omega arith
-
--- the words of a text: the first, and those behind it
-words_are : (bs : List ℕ) →
-    words_of bs ≡ take (length (before_mark 32 bs)) bs ∷ cond (ltb (length (before_mark 32 bs)) (length bs)) (words_of (drop (length (before_mark 32 bs) + 1) bs)) []
-unfolding words_of before_mark
-words_are [] = refl
-words_are (b ∷ bs) = go (eqb b 32) (words_are bs)
+-- what stands before the mark, by its place
+before_is : (mark : ℕ) (bs : List ℕ) → length (before_mark mark bs) ≡ position_or_len (λ b. eqb b mark) bs
+unfolding before_mark
+before_is mark = is_position_or_len (λ bs. length (before_mark mark bs)) (λ b. eqb b mark) refl (λ b bs. go (eqb b mark) b bs)
   where
-    go : (t : Bool) → words_of bs ≡ take (length (before_mark 32 bs)) bs ∷ cond (ltb (length (before_mark 32 bs)) (length bs)) (words_of (drop (length (before_mark 32 bs) + 1) bs)) []
-        → (let n = length (cond t [] (b ∷ before_mark 32 bs)) in
-        cond t ([] ∷ words_of bs) (in_front b (words_of bs)) ≡ take n (b ∷ bs) ∷ cond (ltb n (length (b ∷ bs))) (words_of (drop (n + 1) (b ∷ bs))) [])
-    go true e = rw (lt-ltb 0 (suc (length bs)) (omega arith))
-    go false e =
-        let n = length (before_mark 32 bs) in
-        rw (e, suc-add, same_test (suc n) (suc (length bs)) n (length bs) (λ h. omega arith) (λ h. omega arith))
+    go : (t : Bool) (b : ℕ) (bs : List ℕ) → length (cond t [] (b ∷ before_mark mark bs)) ≡ cond t 0 (1 + length (before_mark mark bs))
+    go true b bs = refl
+    go false b bs = omega arith
 
-pub behind_next : (line : List ℕ) (at end : ℕ) → at < length line → end ≡ end_of 32 line (at + 1)
-    → words_behind line at ≡ take (end - (at + 1)) (drop (at + 1) line) ∷ words_behind line end
-unfolding words_behind end_of
-behind_next line at end h e =
-    let rest = drop (at + 1) line in
-    let n = length (before_mark 32 rest) in
-    let size : n ≡ end - (at + 1) = omega arith in
-    let place : at + 1 + (n + 1) ≡ end + 1 = omega arith in
-    let d : drop (n + 1) rest ≡ drop (end + 1) line = drop-drop (n + 1) (at + 1) line ∙ ap (λ (k : ℕ). drop k line) place in
-    let more : ltb n (length rest) ≡ ltb end (length line) =
-    same_test n (length rest) end (length line) (λ l. omega (arith, length-drop (at + 1) line)) (λ l. omega (arith, length-drop (at + 1) line)) in
-    rw (lt-ltb at (length line) h, words_are rest, more, d, size)
+found_or_end : (mark : ℕ) (bs : List ℕ) → unwrap_or (position (λ b. eqb b mark) bs) (length bs) ≡ length (before_mark mark bs)
+found_or_end mark bs =
+    let n = position_or_len (λ b. eqb b mark) bs in
+    go n (ltb n (length bs)) refl (before_is mark bs)
+  where
+    go : (n : ℕ) (t : Bool) → ltb n (length bs) ≡ t → length (before_mark mark bs) ≡ n → unwrap_or (cond t (Some n) None) (length bs) ≡ length (before_mark mark bs)
+    go n true q e = sym e
+    go n false q e = omega (arith, ltb-false n (length bs) q, before_short mark bs)
+
+-- the part of a text from a place on
+pub rest_is : (text : List ℕ) (from : ℕ) → take (length text - from) (drop from text) ≡ drop from text
+rest_is text from = take_all (length text - from) (drop from text) (omega (arith, length-drop from text))
+
+-- a place past the end leaves nothing, as the end does
+from_end : (text : List ℕ) (from : ℕ) → drop (min from (length text)) text ≡ drop from text
+from_end text from = elim (dec_le from (length text)) [ yes l ↦ rw (min-eq_left l) | no n ↦ let l : length text ≤ from = omega arith in rw (min-eq_right l, drop_of_length-le text l) (drop_of_length-le text (omega arith)) ]
+
+pub end_is : (mark : ℕ) (text : List ℕ) (from : ℕ) → let m = min from (length text) in let rest = take (length text - m) (drop m text) in
+    from + unwrap_or (position (λ b. eqb b mark) rest) (length rest) ≡ end_of mark text from
+unfolding end_of
+end_is mark text from = rw (rest_is text (min from (length text)), from_end text from, found_or_end mark (drop from text))
+
+-- the words behind a place, where there are any
+pub words_from : (line : List ℕ) (end : ℕ) → end < length line → words_of (take (length line - (end + 1)) (drop (end + 1) line)) ≡ words_behind line end
+unfolding words_behind
+words_from line end h = rw (rest_is line (end + 1), lt-ltb end (length line) h)
+
+pub words_none : (line : List ℕ) (end : ℕ) → length line ≤ end → words_behind line end ≡ []
+unfolding words_behind
+words_none line end h = rw (le-ltb end (length line) h)

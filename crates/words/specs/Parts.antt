@@ -1,9 +1,9 @@
 -- The parts of a text: what stands before a mark, and the words between spaces (words are separated by exactly one).
 -- Assumes nothing.
-use Rattle.std.specs.Prelude.{ℕ, ◌+◌, Bool, true, ◌&&◌, cond, List, [], ◌∷◌, map, ◌≡◌, leb, ltb, eqb, length, get_or, drop}
+use Rattle.std.specs.Prelude.{ℕ, ◌+◌, Bool, true, ◌&&◌, cond, List, [], ◌∷◌, map, ◌≡◌, leb, ltb, eqb, length, get_or, drop, is_some, unwrap_or, Result, Ok, Err}
 use Rattle.std.proofs.lemmas.List.Edits.{sets}
 use Rattle.decimal.specs.Numbers.{number_of}
-use Rattle.words.specs.declared.Numbers.{Numbers}
+use Rattle.words.specs.declared.Unread.{Unread}
 
 -- what stands before the first mark
 unfoldable pub before_mark : ℕ → List ℕ → List ℕ
@@ -34,17 +34,22 @@ words_behind line end = cond (ltb end (length line)) (words_of (drop (end + 1) l
 
 abbrev pub all_numbers : List (List ℕ) → Bool
 all_numbers [] = true
-all_numbers (w ∷ ws) = (number_of w).ok && all_numbers ws
+all_numbers (w ∷ ws) = is_some (number_of w) && all_numbers ws
 
 -- the number that a word writes, 0 where it writes none
 abbrev pub value_in : List ℕ → ℕ
-value_in w = (number_of w).value
+value_in w = unwrap_or (number_of w) 0
 
--- what reading these words as numbers into so many places answers
-abbrev pub read_of : List (List ℕ) → ℕ → Numbers
-read_of ws room = record { ok = all_numbers ws && leb (length ws) room; count = length ws }
+-- what reading these words as numbers into so many places answers: how many they are, on either side
+abbrev pub read_of : List (List ℕ) → ℕ → Result ℕ Unread
+read_of ws room = cond (all_numbers ws && leb (length ws) room) (Ok (length ws)) (Err (record { words = length ws }))
 
--- the numbers behind a command: the answer, and what is in the places afterwards (those past the end are not written)
-pub record ReadNumbers (line : List ℕ) (end : ℕ) (out : List ℕ) (r : Numbers) (left : List ℕ) : Type 0 where
+-- words read as numbers: the answer, and what is in the places afterwards (those past the end are not written)
+pub record ReadWords (ws : List (List ℕ)) (out : List ℕ) (r : Result ℕ Unread) (left : List ℕ) : Type 0 where
+  pub answer_is : r ≡ read_of ws (length out)
+  pub numbers_are : left ≡ sets out 0 (map value_in ws)
+
+-- the numbers behind a command: the answer, and what is in the places afterwards
+pub record ReadNumbers (line : List ℕ) (end : ℕ) (out : List ℕ) (r : Result ℕ Unread) (left : List ℕ) : Type 0 where
   pub answer_is : r ≡ read_of (words_behind line end) (length out)
   pub numbers_are : left ≡ sets out 0 (map value_in (words_behind line end))

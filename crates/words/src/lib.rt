@@ -1,15 +1,13 @@
 // Lines and words of a script, and the numbers behind a command.
 #![tactic(auto)]
 
-ghost use Rattle.std.specs.Prelude.{◌≡◌, set};
-ghost use Rattle.words.specs.Parts.{end_of, is_silent, ReadNumbers};
+ghost use Rattle.std.specs.Prelude.{◌≡◌, ◌==◌, position, set};
+ghost use Rattle.words.specs.Parts.{end_of, is_silent, words_of, ReadWords, ReadNumbers};
 
-// What stands behind a command: whether all of it is numbers, and no more than there is room for;
-// and how many words it is.
-#[derive(Clone, Copy)]
-pub struct Numbers {
-    pub ok: bool,
-    pub count: usize,
+// So many words that are not all numbers, or more than there is room for.
+#[derive(Clone, Copy, Debug, PartialEq, Eq)]
+pub struct Unread {
+    pub words: usize,
 }
 
 const SPACE: u8 = b' ';
@@ -18,21 +16,23 @@ const LINE_END: u8 = b'\n';
 
 const COMMENT: u8 = b'#';
 
+// Where the first mark stands.
+fn find(text: &[u8], mark: u8) -> Option<usize>
+    ensures { result ≡ position (λ b. b == mark) text.now }
+{
+    text.iter().position(|byte| *byte == mark)
+}
+
 // Where the next mark stands, from a place on, or the end of the text.
 fn end_of(text: &[u8], from: usize, mark: u8) -> usize
     ensures { result ≡ end_of mark text.now from }
 {
-    let mut at = from;
-    while at < text.len() {
-        if text[at] == mark {
-            return at;
-        }
-        at += 1;
-    }
-    at
+    let rest = &text[from.min(text.len())..];
+    from + find(rest, mark).unwrap_or(rest.len())
 }
 
 // Where the line that begins at a place ends.
+// Kept: this and `word_end` are the names of one function at two marks, which their contracts say.
 pub fn line_end(text: &[u8], from: usize) -> usize
     ensures { result ≡ end_of 10 text.now from }
 {
@@ -50,11 +50,7 @@ pub fn word_end(text: &[u8], from: usize) -> usize
 pub fn is_silent(line: &[u8]) -> bool
     ensures { result ≡ is_silent line.now }
 {
-    if line.len() == 0 {
-        true
-    } else {
-        line[0] == COMMENT
-    }
+    line.is_empty() || line[0] == COMMENT
 }
 
 // One number, where there is room for it.
@@ -66,23 +62,32 @@ fn store(out: &mut [u64], at: usize, value: u64)
     }
 }
 
-// The numbers of the words behind the one that ends at a place, up to the end of the line.
-pub fn numbers_behind(line: &[u8], end: usize, out: &mut [u64]) -> Numbers
-    ensures { ReadNumbers line.now end out.old result out.new }
+// The numbers of all words of a text.
+fn numbers_of(text: &[u8], out: &mut [u64]) -> Result<usize, Unread>
+    ensures { ReadWords (words_of text.now) out.old result out.new }
 {
-    let mut at = end;
     let mut count = 0;
     let mut ok = true;
-    while at < line.len() {
-        let start = at + 1;
-        at = word_end(line, start);
-        let number = decimal::number_of(&line[start..at]);
-        ok = ok & number.ok;
-        store(out, count, number.value);
+    for word in text.split(|byte| *byte == SPACE) {
+        let number = decimal::number_of(word);
+        ok = ok & number.is_some();
+        store(out, count, number.unwrap_or(0));
         count += 1;
     }
-    Numbers {
-        ok: ok & (count <= out.len()),
-        count,
+    if ok & (count <= out.len()) {
+        Ok(count)
+    } else {
+        Err(Unread { words: count })
+    }
+}
+
+// The numbers of the words behind the one that ends at a place, up to the end of the line: how many they are.
+pub fn numbers_behind(line: &[u8], end: usize, out: &mut [u64]) -> Result<usize, Unread>
+    ensures { ReadNumbers line.now end out.old result out.new }
+{
+    if end < line.len() {
+        numbers_of(&line[end + 1..], out)
+    } else {
+        Ok(0)
     }
 }

@@ -1,14 +1,7 @@
 -- A write-back is read at its places alone, over position and width: bits that no place has change nothing that a reader returns, and bits put at a
 -- place are the number that is read there, with every other number as before.
 -- Assumes nothing.
-use Prim.Native.Nat.{ℕ, zero, suc, ◌+◌, ◌%◌, ◌^◌, ◌≤◌, ◌<◌}
-use mathlib.Core.Path.{◌≡◌, refl, sym, ap, ap₂, ◌∙◌}
-use mathlib.Core.Bool.{Bool, true, false, ◌&&◌, ◌||◌}
-use mathlib.Core.Logic.{◌⊎◌, inl, inr, ⊎_elim}
-use mathlib.Core.List.{List, [], ◌∷◌}
-use native.Mathlib.Omega.{arith}
-use lib.Dec.{T, leb, ltb, leb→le, le→leb, ltb→lt}
-use lib.ListN.{length, set}
+use Rattle.std.proofs.Common.{ℕ, zero, suc, ◌+◌, ◌%◌, ◌^◌, ◌≤◌, ◌<◌, ◌≡◌, refl, sym, ap, ap₂, ◌∙◌, Bool, true, false, ◌&&◌, ◌||◌, ◌⊎◌, inl, inr, ⊎_elim, List, [], ◌∷◌, arith, T, leb, ltb, leb→le, le→leb, ltb→lt, length, set}
 use mir.Facts.{and_yes, or_yes}
 use Rattle.field.specs.Field.{replaced, Part, nth, rising, apart, free}
 use Rattle.field.proofs.Laws.{replaced_same, replaced_apart}

@@ -1,13 +1,6 @@
 -- The verdicts of a write-back: given only where L3L4P is set and the type known, and all that is seen of the two error bits.
 -- Assumes nothing.
-use Prim.Native.Nat.{ℕ, ◌/◌, ◌%◌, ◌^◌}
-use mathlib.Core.Path.{◌≡◌, sym, ap, ◌∙◌}
-use mathlib.Core.Logic.{◌≢◌, ⊎_elim}
-use mathlib.Core.Bool.{Bool, true, false}
-use native.Mathlib.Nat.{mod-lt}
-use lib.Dec.{eqb}
-use lib.Pow.{pow_pos}
-use lib.ListN.{take, drop}
+use Rattle.std.proofs.Common.{ℕ, ◌/◌, ◌%◌, ◌^◌, ◌≡◌, sym, ap, ◌∙◌, ◌≢◌, ⊎_elim, Bool, true, false, mod-lt, eqb, pow_pos, take, drop}
 use Rattle.field.specs.Field.{read_at}
 use Rattle.family.specs.declared.Family.TheVariants.{Unknown}
 use Rattle.family.specs.Types.{family_of}

@@ -5,11 +5,12 @@ ghost use Rattle.std.specs.Prelude.{◌≡◌};
 ghost use Rattle.writeback.specs.WriteBack.{tag_of, hash_of, marks_of, write_back_of};
 
 use family::Family;
+use field::flag;
 use type_match::entry_of;
 use verdict::{Marks, Verdict, l3_verdict, l4_verdict};
 
 // The fields of a write-back. A tag or a hash that is not there reads as 0; the two error bits of checksums are handed up as verdicts.
-#[derive(Clone, Copy)]
+#[derive(Clone, Copy, Debug, PartialEq, Eq)]
 pub struct WriteBack {
     pub tag: u16,
     pub hash: u32,
@@ -64,8 +65,7 @@ const OVERSIZE: u64 = ERROR + 6;
 const PTYPE: u64 = 30;
 
 // How many numbers a field of so many bits holds: reading it leaves the remainder.
-const ONE_BIT: u64 = 1 << 1;
-
+// Kept: a field of several bits is a shift and a remainder where it is read: a call with position and width would say the same, and its cast as well.
 const TWO_BITS: u64 = 1 << 2;
 
 const EIGHT_BITS: u64 = 1 << 8;
@@ -77,7 +77,7 @@ const THIRTY_TWO_BITS: u64 = 1 << 32;
 fn tag_of(word0: u64, word1: u64) -> u16
     ensures { result ≡ tag_of (record { word0 = word0; word1 = word1 }) }
 {
-    if (word1 >> L2TAG1P) % ONE_BIT == 1 {
+    if flag(word1, L2TAG1P) {
         ((word0 >> L2TAG1) % SIXTEEN_BITS) as u16
     } else {
         0
@@ -99,42 +99,43 @@ fn marks_of(word1: u64) -> Marks
     ensures { result ≡ marks_of word1 }
 {
     Marks {
-        l3l4p: (word1 >> L3L4P) % ONE_BIT == 1,
-        ipv6exadd: (word1 >> IPV6EXADD) % ONE_BIT == 1,
-        int_udp_0: (word1 >> INT_UDP_0) % ONE_BIT == 1,
-        ipe: (word1 >> IPE) % ONE_BIT == 1,
-        l4e: (word1 >> L4E) % ONE_BIT == 1,
+        l3l4p: flag(word1, L3L4P),
+        ipv6exadd: flag(word1, IPV6EXADD),
+        int_udp_0: flag(word1, INT_UDP_0),
+        ipe: flag(word1, IPE),
+        l4e: flag(word1, L4E),
     }
 }
 
+#[tactic(auto, using(verdict::proofs::Types::l3_typed, verdict::proofs::Types::l4_typed, crate::proofs::Verdicts::same_family), unfolding(crate::specs::WriteBack::write_back_of))]
 pub fn read(word0: u64, word1: u64) -> WriteBack
     ensures { result ≡ write_back_of (record { word0 = word0; word1 = word1 }) }
 {
     let ptype = ((word1 >> PTYPE) % EIGHT_BITS) as u8;
+    // Kept: these seven go by names before the struct, since with the calls written inside it a take of one slot costs 310 instructions and not 293.
     let tag = tag_of(word0, word1);
     let hash = hash_of(word0, word1);
     let entry = entry_of(ptype);
     let family = entry.family;
-    let kind = entry.l4;
     let marks = marks_of(word1);
     let l3 = l3_verdict(entry.version, marks);
-    let l4 = l4_verdict(entry.version, kind, marks);
+    let l4 = l4_verdict(entry.version, entry.l4, marks);
     WriteBack {
         tag,
         hash,
         dd: places::dd(word1),
         eop: places::eop(word1),
-        l2tag1p: (word1 >> L2TAG1P) % ONE_BIT == 1,
+        l2tag1p: flag(word1, L2TAG1P),
         l3l4p: marks.l3l4p,
-        crcp: (word1 >> CRCP) % ONE_BIT == 1,
+        crcp: flag(word1, CRCP),
         umbcast: ((word1 >> UMBCAST) % TWO_BITS) as u8,
         fltstat: ((word1 >> FLTSTAT) % TWO_BITS) as u8,
-        lpbk: (word1 >> LPBK) % ONE_BIT == 1,
+        lpbk: flag(word1, LPBK),
         ipv6exadd: marks.ipv6exadd,
         int_udp_0: marks.int_udp_0,
         l3,
         l4,
-        oversize: (word1 >> OVERSIZE) % ONE_BIT == 1,
+        oversize: flag(word1, OVERSIZE),
         ptype,
         length: places::length(word1),
         family,

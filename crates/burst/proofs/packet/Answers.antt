@@ -1,6 +1,6 @@
 -- `packet` meets its contract. The loop's invariant: k slots are passed, none the last of its packet (`Walking`); each way out is one law of it.
 -- Assumes nothing.
-use mathlib.Core.Path.{sym, ◌∙◌}
+use mathlib.Core.Path.{◌≡◌, sym, ◌∙◌}
 use mathlib.Core.List.{[]}
 use native.Mathlib.Omega.{arith}
 use Rattle.slots.proofs.Steps.{on_is}
@@ -45,4 +45,6 @@ returns-else-slot_ok c =
     wrong_found _ _ _ _ _ _ c.loop-k.invariant (omega arith) d a _ c.refused-else-slot_ok.ensures
 
 pub returns : goal.returns
-returns c = end_found _ _ _ _ _ _ c.loop-k.invariant (omega arith) _ c.refused-2.ensures
+returns c =
+    let e : c.loop-k.k ≡ c.args.queue.posted = omega (arith, (c.loop-k.invariant.walked []).within) in
+    end_found _ _ _ _ _ _ c.loop-k.invariant (omega arith) _ (rw e c.refused-2.ensures)

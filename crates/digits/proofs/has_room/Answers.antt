@@ -1,5 +1,5 @@
 -- `digits::has_room` meets its contract. Assumes nothing.
-use native.Mathlib.Omega.{arith}
+use Rattle.std.proofs.Common.{arith}
 use Rattle.digits.proofs.Places.{fits_within}
 use Rattle.digits.proofs.has_room.Goals as goal
 

@@ -1,6 +1,5 @@
 -- `feed::next_line` meets its contract. Assumes nothing.
-use borrow.Author.Tests.{lt-ltb, le-ltb}
-use lib.ListN.{length}
+use Rattle.std.proofs.Common.{length, lt-ltb, le-ltb}
 use Rattle.feed.specs.Feeding.{next_of}
 use Rattle.feed.proofs.next_line.Goals as goal
 

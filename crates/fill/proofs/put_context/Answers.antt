@@ -1,8 +1,6 @@
 -- `fill::put_context` meets its contract.
 -- Assumes nothing.
-use Prim.Native.Nat.{ℕ}
-use mathlib.Core.Path.{ap}
-use mathlib.Core.List.{[], ◌∷◌}
+use Rattle.std.proofs.Common.{ℕ, ap, [], ◌∷◌}
 use Rattle.slots.proofs.Steps.{here_is}
 use Rattle.fill.proofs.Pieces.{put_context, put_none}
 use Rattle.fill.proofs.put_context.Goals as goal

@@ -1,12 +1,9 @@
--- `fill::put_leading` meets its contract. The loop's invariant: the ring has the first i pieces, and `at` is the slot behind them.
+-- `fill::put_leading` meets its contract. The loop's invariant: the ring has the pieces passed, and `at` is the slot behind them.
 -- Assumes nothing.
-use Prim.Native.Nat.{◌-◌, ◌≤◌}
+use Rattle.std.proofs.Common.{length}
 use Rattle.fill.specs.Steps.{Filled, leading_numbers}
 use Rattle.fill.proofs.put_leading.Given as goal
 
-abbrev pub invariant-loop-i : goal.invariant-loop-i
-invariant-loop-i l =
-    (l.i ≤ l.last) × Filled l.initial.ring l.ring (leading_numbers l.alike l.addresses l.lengths) l.size l.start l.i l.at
-
-abbrev pub decreases-loop-i : goal.decreases-loop-i
-decreases-loop-i l = l.last - l.i
+abbrev pub invariant-loop-address : goal.invariant-loop-address
+invariant-loop-address l =
+    Filled l.initial.ring l.ring (leading_numbers l.alike l.addresses l.lengths) l.size l.start (length l.yielded) l.at

@@ -1,12 +1,11 @@
--- `little::copy` meets its contract. The loop's invariant: with the bytes that are left stored, all are.
+-- `little::copy` meets its contract: a part written over is a row stored.
 -- Assumes nothing.
-use native.Mathlib.Omega.{arith}
-use lib.ListN.{length-set}
-use Rattle.slots.proofs.Pieces.{store_one}
+use Rattle.std.proofs.Common.{◌≡◌, ◌+◌, ◌-◌, length, arith, drop-drop}
+use Rattle.slots.proofs.Pieces.{store_whole}
 use Rattle.little.proofs.copy.Goals as goal
 
-pub loop-i-preserved : goal.loop-i-preserved
-loop-i-preserved c =
+pub returns : goal.returns
+returns c =
     let a = c.args in
-    let l = c.loop-i in
-    (omega arith, simp length-set l.invariant.1, store_one l.out a.at a.bytes.now l.i _ c.loop-i-test.true l.invariant.2)
+    let count : a.at + length a.bytes.now - a.at ≡ length a.bytes.now = omega arith in
+    rw (store_whole a.out.now a.at a.bytes.now c.requires, c.copy_from_slice.ensures.after, count, drop-drop)

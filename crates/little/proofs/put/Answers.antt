@@ -1,7 +1,5 @@
--- `little::put` meets its contract. The loop's invariant: with the bytes that are left stored, the whole number is.
+-- `little::put` meets its contract: each turn stores the lowest byte of what is left.
 -- Assumes nothing.
-use native.Mathlib.Omega.{arith}
-use lib.ListN.{length-set}
 use Rattle.little.proofs.Steps.{put_one}
 use Rattle.little.proofs.put.Goals as goal
 
@@ -9,4 +7,4 @@ pub loop-i-preserved : goal.loop-i-preserved
 loop-i-preserved c =
     let a = c.args in
     let l = c.loop-i in
-    (omega arith, simp length-set l.invariant.1, put_one l.out a.at a.n l.i l.rest _ c.loop-i-test.true l.invariant.2)
+    put_one l.out a.at a.n l.i l.rest _ c.loop-i-test.true l.invariant

@@ -1,7 +1,6 @@
 -- `offload::request_ok` meets its contract: the header is added up where its lengths are right.
 -- Assumes nothing.
-use mathlib.Core.Path.{sym, ◌∙◌}
-use native.Mathlib.Omega.{arith}
+use Rattle.std.proofs.Common.{sym, ◌∙◌, arith}
 use Rattle.offload.specs.Offload.{request_ok}
 use Rattle.offload.proofs.Laws.{headers_are}
 use Rattle.offload.proofs.request_ok.Goals as goal

@@ -1,7 +1,5 @@
 -- `row::put_all` meets its contract. What is left of the room says whether the row fits. Assumes nothing.
-use mathlib.Core.Path.{ap, ◌∙◌}
-use native.Mathlib.Omega.{arith}
-use lib.ListN.{length}
+use Rattle.std.proofs.Common.{length, ap, ◌∙◌, arith}
 use lib.Seq.{length-sets}
 use Rattle.row.specs.Rows.{row_of}
 use Rattle.row.proofs.Printing.{put_whole, whole_put, none_put, row_whole, row_length}

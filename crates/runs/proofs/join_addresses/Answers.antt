@@ -1,10 +1,9 @@
 -- `runs::join_addresses` meets its contract, by the laws of `Storing`.
 -- Assumes nothing.
-use mathlib.Core.Path.{sym, ◌∙◌}
+use Rattle.std.proofs.Common.{sym, ◌∙◌, arith}
 use Rattle.runs.specs.Runs.{valid}
 use Rattle.runs.proofs.Joined.{addresses_length, addresses_at}
 use Rattle.runs.proofs.Storing.{storing_first, storing_run, storing_next, storing_done}
-use native.Mathlib.Omega.{arith}
 use Rattle.runs.proofs.join_addresses.Goals as goal
 
 pub loop-r-init : goal.loop-r-init

@@ -1,10 +1,9 @@
 -- `runs::join_lengths` meets its contract, by the laws of `Storing`.
 -- Assumes nothing.
-use mathlib.Core.Path.{◌∙◌}
+use Rattle.std.proofs.Common.{◌∙◌, arith}
 use Rattle.runs.specs.Runs.{joined}
 use Rattle.runs.proofs.Joined.{joined_length, noted_length}
 use Rattle.runs.proofs.Storing.{storing_first, storing_run, storing_next, storing_done, storing_bytes}
-use native.Mathlib.Omega.{arith}
 use Rattle.runs.proofs.join_lengths.Goals as goal
 
 pub loop-r-init : goal.loop-r-init

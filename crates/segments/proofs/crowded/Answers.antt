@@ -1,7 +1,5 @@
 -- `segments::crowded` meets its contract, by the laws of `Sweep`. Assumes nothing.
-use Prim.Native.Nat.{◌+◌}
-use mathlib.Core.Path.{sym}
-use native.Mathlib.Omega.{arith}
+use Rattle.std.proofs.Common.{◌+◌, sym, arith}
 use Rattle.segments.specs.Touch.{most_touched, header_pieces}
 use Rattle.segments.proofs.Starts.{start_up}
 use Rattle.segments.proofs.Meaning.{crowded_few}
@@ -36,8 +34,8 @@ pub overflow_add-start-in-loop-i : goal.overflow_add-start-in-loop-i
 overflow_add-start-in-loop-i c =
     omega (arith, sweep_room c.loop-i.invariant (omega arith))
 
-pub overflow_add-end : goal.overflow_add-end
-overflow_add-end c =
+pub overflow_add-end-in-loop-i : goal.overflow_add-end-in-loop-i
+overflow_add-end-in-loop-i c =
     omega (arith, sweep_room c.loop-i.invariant (omega arith))
 
 pub loop-i-preserved : goal.loop-i-preserved

@@ -1,16 +1,18 @@
--- `segments::sum` meets its contract: `bytes` is the bytes of the first `i` pieces. Assumes nothing.
-use mathlib.Core.Path.{sym}
-use native.Mathlib.Omega.{arith}
-use Rattle.segments.proofs.Starts.{start_zero, start_step, start_whole}
+-- `segments::sum` meets its contract: the library's sum is the bytes of the pieces. Assumes nothing.
+use Rattle.std.proofs.Common.{◌<◌, take, arith, rules}
+use Rattle.std.specs.List.{sum}
+use Rattle.std.proofs.iter.runs.Sources.{sums}
+use Rattle.segments.proofs.Starts.{start_sum, start_up}
 use Rattle.segments.proofs.sum.Goals as goal
 
-pub loop-i-init : goal.loop-i-init
-loop-i-init c = (omega arith, sym (start_zero c.args.lengths.now))
+pub sum-requires-clause-fits : goal.sum-requires-clause-fits
+sum-requires-clause-fits c =
+    let ls = c.args.lengths.now in
+    let whole = start_up ls _ c.requires.upto in
+    let few : sum (take c.args.n ls) < 18446744073709551616 = rw (start_sum ls c.args.n c.requires.upto) (omega (arith, c.requires.small, whole)) in
+    search (rules, sums, few)
 
-pub overflow_add-bytes : goal.overflow_add-bytes
-overflow_add-bytes c =
-    omega (arith, start_whole c.args.lengths.now c.loop-i.i (omega arith))
-
-pub loop-i-preserved : goal.loop-i-preserved
-loop-i-preserved c =
-    (omega arith, start_step c.args.lengths.now c.loop-i.bytes c.loop-i.i c.loop-i.invariant.1)
+pub returns : goal.returns
+returns c =
+    let e = start_sum c.args.lengths.now c.args.n c.requires.upto in
+    search (rules, e)

@@ -1,8 +1,6 @@
 -- `slots::next` meets its contract: a sum that reaches the size is the size, and less a lap it is 0.
 -- Assumes nothing.
-use Prim.Native.Nat.{◌+◌, ◌-◌}
-use mathlib.Core.Path.{◌≡◌}
-use native.Mathlib.Omega.{arith}
+use Rattle.std.proofs.Common.{◌+◌, ◌-◌, ◌≡◌, arith}
 use Rattle.slots.proofs.Steps.{sum_is, lap_is}
 use Rattle.slots.proofs.next.Goals as goal
 

@@ -1,28 +1,14 @@
--- `words::numbers_behind` meets its contract. The words read and those left are all of them (`SoFar`). Assumes nothing.
-use Prim.Native.Nat.{◌+◌}
-use native.Mathlib.Omega.{arith}
-use Rattle.words.proofs.Splits.{end_behind, end_inside}
-use Rattle.words.proofs.Progress.{none_yet, one_more, all_read}
+-- `words::numbers_behind` meets its contract. Assumes nothing.
+use Rattle.std.proofs.Common.{length, arith, le-leb}
+use Rattle.words.proofs.Splits.{words_from, words_none}
 use Rattle.words.proofs.numbers_behind.Goals as goal
 
-pub loop-at-init : goal.loop-at-init
-loop-at-init c = none_yet
+pub returns-then-end-line : goal.returns-then-end-line
+returns-then-end-line c =
+    let e = words_from c.args.line.now c.args.end c.if-end-line.true in
+    record { answer_is = rw (← e) c.numbers_of.ensures.answer_is; numbers_are = rw (← e) c.numbers_of.ensures.numbers_are }
 
--- the word ends behind its start, within the line
-pub slice_bounds-number_of-count : goal.slice_bounds-number_of-count
-slice_bounds-number_of-count c = omega (arith, end_behind 32 c.args.line.now (c.loop-at.at + 1), end_inside 32 c.args.line.now (c.loop-at.at + 1) (omega arith))
-
-pub loop-at-smaller : goal.loop-at-smaller
-loop-at-smaller c = omega (arith, end_behind 32 c.args.line.now (c.loop-at.at + 1), end_inside 32 c.args.line.now (c.loop-at.at + 1) (omega arith))
-
-pub loop-at-preserved : goal.loop-at-preserved
-loop-at-preserved c = one_more c.loop-at.invariant (omega arith) c.word_end-at.ensures c.number_of-number.ensures c.store.ensures
-
-pub returns : goal.returns
-returns c = all_read c.loop-at.invariant (omega arith)
-
-pub slice_bounds-number_of-start : goal.slice_bounds-number_of-start
-slice_bounds-number_of-start c = omega (arith, end_behind 32 c.args.line.now (c.loop-at.at + 1), end_inside 32 c.args.line.now (c.loop-at.at + 1) (omega arith))
-
-pub slice_bounds-number_of-end : goal.slice_bounds-number_of-end
-slice_bounds-number_of-end c = omega (arith, end_behind 32 c.args.line.now (c.loop-at.at + 1), end_inside 32 c.args.line.now (c.loop-at.at + 1) (omega arith))
+pub returns-else-end-line : goal.returns-else-end-line
+returns-else-end-line c =
+    let e = words_none c.args.line.now c.args.end (omega (arith, c.if-end-line.false)) in
+    record { answer_is = rw (e, le-leb 0 (length c.args.out.now) (omega arith)); numbers_are = rw e }

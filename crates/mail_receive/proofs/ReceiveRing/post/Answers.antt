@@ -5,7 +5,7 @@ use Rattle.mail_receive.proofs.Laws.{post_room, post_short}
 use Rattle.mail_receive.proofs.ReceiveRing.post.Goals as goal
 
 pub room_element-e-requires : goal.room_element-e-requires
-room_element-e-requires c = post_short _ _ _ _ _ (sym c.post_answer-answer.ensures ∙ c.if-answer-ne0.false)
+room_element-e-requires c = post_short _ _ _ _ _ (sym c.post_answer.ensures ∙ c.in_default.is)
 
 pub put-shared-requires : goal.put-shared-requires
-put-shared-requires c = post_room _ _ _ _ _ (sym c.post_answer-answer.ensures ∙ c.if-answer-ne0.false)
+put-shared-requires c = post_room _ _ _ _ _ (sym c.post_answer.ensures ∙ c.in_default.is)

@@ -1,57 +1,42 @@
 -- `SendRing::completion` meets its contract: what was seen is the element at head.
 -- Assumes nothing.
-use Prim.Native.Nat.{ℕ}
-use mathlib.Core.Path.{◌≡◌, sym, ◌∙◌}
-use mathlib.Core.Bool.{Bool, cond}
-use mathlib.Core.List.{List}
-use native.Mathlib.Omega.{arith}
-use lib.Dec.{eqb}
-use lib.ListN.{length}
-use Rattle.rules.specs.Rules.{answer_of}
-use Rattle.mail_ring.specs.declared.Seen.{Seen}
-use Rattle.mail_ring.specs.Look.{look_of}
-use Rattle.mail_reading.specs.Reading.{completion_wrong, element_checks}
+use Rattle.std.proofs.Common.{length, refl, sym, ◌∙◌, arith}
+use Rattle.rules.proofs.Answers.{refused_is}
+use Rattle.mail_reading.specs.Reading.{completion_wrong}
 use Rattle.mail_reading.proofs.Answers.{read_answer}
-use Rattle.mail_send.specs.declared.SendRing.{SendRing}
 use Rattle.mail_send.specs.Sending.{completion_answer}
 use Rattle.mail_send.proofs.Laws.{completion_refused, completion_given, completion_seen, completion_waiting}
 use Rattle.mail_send.proofs.SendRing.completion.Goals as goal
 
--- an answer made of what was seen is that of the element at head
-answer_is : (q : SendRing) (ring list : List ℕ) (lent : ℕ) {s : Seen} {w : Bool} {a : ℕ} → s ≡ look_of q.shared ring list → w ≡ completion_wrong s.element s.posted
-    → a ≡ cond (eqb s.answer 0) (answer_of (element_checks w s.element lent)) s.answer → a ≡ completion_answer q ring list lent
+pub returns-in-Err : goal.returns-in-Err
 unfolding completion_answer
-answer_is q ring list lent = read_answer completion_wrong q.shared ring list lent
-
-pub returns-then-answer-ne0 : goal.returns-then-answer-ne0
-returns-then-answer-ne0 c =
-    let a = c.args in
-    let is = answer_is a.self a.ring.now a.list.now (length a.buffer.now) c.look-seen.ensures c.completion_wrong-wrong.ensures c.answer-answer.ensures in
-    rw c.no_reading.ensures (completion_refused _ _ _ _ is c.if-answer-ne0.true)
+returns-in-Err c =
+    let is = read_answer completion_wrong _ _ _ _ c.look-seen.ensures c.completion_wrong-wrong.ensures c.answer.ensures in
+    rw c.no_reading.ensures (completion_refused _ _ _ _ (sym c.in-Err.is ∙ is) (refused_is _ refl))
 
 pub reading_of-reading-requires : goal.reading_of-reading-requires
+unfolding completion_answer
 reading_of-reading-requires c =
-    let a = c.args in
-    let is = answer_is a.self a.ring.now a.list.now (length a.buffer.now) c.look-seen.ensures c.completion_wrong-wrong.ensures c.answer-answer.ensures in
-    let p = (completion_waiting _ _ _ _ (sym is ∙ c.if-answer-ne0.false)).is in
+    let is = read_answer completion_wrong _ _ _ _ c.look-seen.ensures c.completion_wrong-wrong.ensures c.answer.ensures in
+    let p = (completion_waiting c.args.self _ _ _ (sym is ∙ c.in_default.is)).is in
     omega (arith, p.head_below, p.size_high)
 
 pub advanced-requires : goal.advanced-requires
+unfolding completion_answer
 advanced-requires c =
-    let a = c.args in
-    let is = answer_is a.self a.ring.now a.list.now (length a.buffer.now) c.look-seen.ensures c.completion_wrong-wrong.ensures c.answer-answer.ensures in
-    completion_waiting _ _ _ _ (sym is ∙ c.if-answer-ne0.false)
+    let is = read_answer completion_wrong _ _ _ _ c.look-seen.ensures c.completion_wrong-wrong.ensures c.answer.ensures in
+    completion_waiting c.args.self _ _ _ (sym is ∙ c.in_default.is)
 
 pub returns : goal.returns
+unfolding completion_answer
 returns c =
     let a = c.args in
-    let is = answer_is a.self a.ring.now a.list.now (length a.buffer.now) c.look-seen.ensures c.completion_wrong-wrong.ensures c.answer-answer.ensures in
-    let z = sym is ∙ c.if-answer-ne0.false in
+    let is = read_answer completion_wrong _ _ _ _ c.look-seen.ensures c.completion_wrong-wrong.ensures c.answer.ensures in
+    let z = sym is ∙ c.in_default.is in
     rw (
       c.reading_of-reading.ensures,
       c.look-seen.ensures,
       completion_seen a.self a.ring.now a.list.now (length a.buffer.now) z,
       c.advanced.ensures,
-      c.if-answer-ne0.false,
     )
     (sym (completion_given a.self a.ring.now a.list.now (length a.buffer.now) z))

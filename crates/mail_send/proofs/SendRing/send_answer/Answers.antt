@@ -28,6 +28,6 @@ pub returns-then-full : goal.returns-then-full
 unfolding send_answer
 returns-then-full c = rw (sym c.lent_ok.ensures ∙ c.if-not-lent_ok.false, c.if-self.false, ← c.length_wrong.ensures, c.if-length_wrong.false, ← c.address_wrong.ensures, c.if-message-address_wrong.false, ← c.full.ensures, c.if-full.true)
 
-pub returns-else-full : goal.returns-else-full
+pub returns : goal.returns
 unfolding send_answer
-returns-else-full c = rw (sym c.lent_ok.ensures ∙ c.if-not-lent_ok.false, c.if-self.false, ← c.length_wrong.ensures, c.if-length_wrong.false, ← c.address_wrong.ensures, c.if-message-address_wrong.false, ← c.full.ensures, c.if-full.false)
+returns c = rw (sym c.lent_ok.ensures ∙ c.if-not-lent_ok.false, c.if-self.false, ← c.length_wrong.ensures, c.if-length_wrong.false, ← c.address_wrong.ensures, c.if-message-address_wrong.false, ← c.full.ensures, c.if-full.false)

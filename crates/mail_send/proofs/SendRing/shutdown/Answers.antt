@@ -5,4 +5,4 @@ use Rattle.mail_send.proofs.Laws.{shutdown_room}
 use Rattle.mail_send.proofs.SendRing.shutdown.Goals as goal
 
 pub put-shared-requires : goal.put-shared-requires
-put-shared-requires c = shutdown_room _ _ _ (sym c.shutdown_answer-answer.ensures ∙ c.if-answer-ne0.false)
+put-shared-requires c = shutdown_room _ _ _ (sym c.shutdown_answer.ensures ∙ c.in_default.is)

@@ -20,6 +20,6 @@ pub returns-then-full : goal.returns-then-full
 unfolding shutdown_answer
 returns-then-full c = rw (sym c.lent_ok.ensures ∙ c.if-not-lent_ok.false, c.if-self.false, ← c.full.ensures, c.if-full.true)
 
-pub returns-else-full : goal.returns-else-full
+pub returns : goal.returns
 unfolding shutdown_answer
-returns-else-full c = rw (sym c.lent_ok.ensures ∙ c.if-not-lent_ok.false, c.if-self.false, ← c.full.ensures, c.if-full.false)
+returns c = rw (sym c.lent_ok.ensures ∙ c.if-not-lent_ok.false, c.if-self.false, ← c.full.ensures, c.if-full.false)

@@ -8,25 +8,25 @@ use Rattle.receive.proofs.RxQueue.post_answer.Goals as goal
 
 pub address_wrong-requires : goal.address_wrong-requires
 address_wrong-requires c =
-    let b = lent_buffer c.args.self _ _ (sym c.lent_ok.ensures ∙ c.if-lent_ok.true) in omega arith
+    let b = lent_buffer c.args.self _ _ (sym c.lent_ok.ensures ∙ c.if-not-lent_ok.false) in omega arith
 
 pub no_room-requires : goal.no_room-requires
-no_room-requires c = (lent _ _ _ (sym c.lent_ok.ensures ∙ c.if-lent_ok.true)).reads.is
+no_room-requires c = (lent _ _ _ (sym c.lent_ok.ensures ∙ c.if-not-lent_ok.false)).reads.is
+
+pub returns-then-not-lent_ok : goal.returns-then-not-lent_ok
+unfolding post_answer
+returns-then-not-lent_ok c = rw (← c.lent_ok.ensures, c.if-not-lent_ok.true)
 
 pub returns-then-address_wrong : goal.returns-then-address_wrong
 unfolding post_answer
-returns-then-address_wrong c = rw (← c.lent_ok.ensures, c.if-lent_ok.true, ← c.address_wrong.ensures, c.if-address_wrong.true)
+returns-then-address_wrong c = rw (← c.lent_ok.ensures, c.if-not-lent_ok.false, ← c.address_wrong.ensures, c.if-address_wrong.true)
 
 pub returns-then-no_room : goal.returns-then-no_room
 unfolding post_answer
 returns-then-no_room c =
-    rw (← c.lent_ok.ensures, c.if-lent_ok.true, ← c.address_wrong.ensures, c.if-address_wrong.false, ← c.no_room.ensures, c.if-no_room.true)
+    rw (← c.lent_ok.ensures, c.if-not-lent_ok.false, ← c.address_wrong.ensures, c.if-address_wrong.false, ← c.no_room.ensures, c.if-no_room.true)
 
-pub returns-else-no_room : goal.returns-else-no_room
+pub returns : goal.returns
 unfolding post_answer
-returns-else-no_room c =
-    rw (← c.lent_ok.ensures, c.if-lent_ok.true, ← c.address_wrong.ensures, c.if-address_wrong.false, ← c.no_room.ensures, c.if-no_room.false)
-
-pub returns-else-lent_ok : goal.returns-else-lent_ok
-unfolding post_answer
-returns-else-lent_ok c = rw (← c.lent_ok.ensures, c.if-lent_ok.false)
+returns c =
+    rw (← c.lent_ok.ensures, c.if-not-lent_ok.false, ← c.address_wrong.ensures, c.if-address_wrong.false, ← c.no_room.ensures, c.if-no_room.false)

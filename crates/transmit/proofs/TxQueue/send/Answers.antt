@@ -1,19 +1,18 @@
 -- `TxQueue::send` meets its contract.
 -- Assumes nothing.
-use mathlib.Core.Path.{sym, ◌∙◌}
-use native.Mathlib.Omega.{arith}
-use Rattle.transmit.proofs.Laws.{sendable}
+use Rattle.std.proofs.Common.{arith}
+use Rattle.transmit.proofs.Laws.{sendable_by}
 use Rattle.transmit.proofs.TxQueue.send.Goals as goal
 
 pub tail-tail-requires : goal.tail-tail-requires
-tail-tail-requires c = (sendable _ _ _ _ _ _ _ (sym c.send_answer-answer.ensures ∙ c.if-answer-eq0.true)).lent_is.is.shared_is
+tail-tail-requires c = (sendable_by _ _ _ _ _ _ _ c.send_answer-answer.ensures c.is_err.ensures.negation c.if-is_err.false).lent_is.is.shared_is
 
 pub slots_of-slots-requires : goal.slots_of-slots-requires
-slots_of-slots-requires c = (sendable _ _ _ _ _ _ _ (sym c.send_answer-answer.ensures ∙ c.if-answer-eq0.true)).own.few
+slots_of-slots-requires c = (sendable_by _ _ _ _ _ _ _ c.send_answer-answer.ensures c.is_err.ensures.negation c.if-is_err.false).own.few
 
 pub put_descriptors-requires : goal.put_descriptors-requires
 put_descriptors-requires c =
-    let r = sendable _ _ _ _ _ _ _ (sym c.send_answer-answer.ensures ∙ c.if-answer-eq0.true) in
+    let r = sendable_by _ _ _ _ _ _ _ c.send_answer-answer.ensures c.is_err.ensures.negation c.if-is_err.false in
     record {
       ring_long = r.lent_is.ring_long;
       size_high = omega (arith, r.lent_is.is.shared_is);
@@ -25,15 +24,15 @@ put_descriptors-requires c =
     }
 
 pub bounds-tokens-tail : goal.bounds-tokens-tail
-bounds-tokens-tail c = let h = (sendable _ _ _ _ _ _ _ (sym c.send_answer-answer.ensures ∙ c.if-answer-eq0.true)).lent_is in omega (arith, h.tokens_long, c.tail-tail.ensures.below)
+bounds-tokens-tail c = let h = (sendable_by _ _ _ _ _ _ _ c.send_answer-answer.ensures c.is_err.ensures.negation c.if-is_err.false).lent_is in omega (arith, h.tokens_long, c.tail-tail.ensures.below)
 
 pub overflow_cast-counts : goal.overflow_cast-counts
 overflow_cast-counts c =
-    let r = sendable _ _ _ _ _ _ _ (sym c.send_answer-answer.ensures ∙ c.if-answer-eq0.true) in
+    let r = sendable_by _ _ _ _ _ _ _ c.send_answer-answer.ensures c.is_err.ensures.negation c.if-is_err.false in
     omega (arith, c.slots_of-slots.ensures, r.grow.room, r.lent_is.is.shared_is)
 
 pub bounds-counts-tail : goal.bounds-counts-tail
-bounds-counts-tail c = let h = (sendable _ _ _ _ _ _ _ (sym c.send_answer-answer.ensures ∙ c.if-answer-eq0.true)).lent_is in omega (arith, h.counts_long, c.tail-tail.ensures.below)
+bounds-counts-tail c = let h = (sendable_by _ _ _ _ _ _ _ c.send_answer-answer.ensures c.is_err.ensures.negation c.if-is_err.false).lent_is in omega (arith, h.counts_long, c.tail-tail.ensures.below)
 
 pub grown-requires : goal.grown-requires
-grown-requires c = rw c.slots_of-slots.ensures (sendable _ _ _ _ _ _ _ (sym c.send_answer-answer.ensures ∙ c.if-answer-eq0.true)).grow
+grown-requires c = rw c.slots_of-slots.ensures (sendable_by _ _ _ _ _ _ _ c.send_answer-answer.ensures c.is_err.ensures.negation c.if-is_err.false).grow
