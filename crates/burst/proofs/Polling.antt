@@ -1,15 +1,8 @@
 -- A burst packet by packet, whatever the companion list: what is known after so many packets, and what the next walk makes of it.
 -- Assumes nothing.
-use Prim.Native.Nat.{ℕ, suc, ◌+◌, ◌-◌, ◌*◌, ◌≤◌, ◌<◌}
-use mathlib.Core.Path.{◌≡◌, refl, sym, ap, ◌∙◌}
-use mathlib.Core.Logic.{◌≢◌}
-use mathlib.Core.Bool.{cond}
-use mathlib.Core.List.{List, [], ◌∷◌, ◌++◌, append_assoc, append-nil}
-use native.Mathlib.Nat.{add-zero, zero-add, add_assoc, sub-zero}
-use native.Mathlib.Omega.{arith}
-use Rattle.std.specs.Prelude.{is_ok}
-use lib.ListN.{length, drop, length-append}
-use lib.Seq.{length-take-le, length_front, take_at, drop-append-add, drop-drop, sets, sets-eq}
+use Rattle.std.proofs.Common.{ℕ, suc, ◌+◌, ◌-◌, ◌*◌, ◌≤◌, ◌<◌, ◌≡◌, refl, sym, ap, ◌∙◌, ◌≢◌, cond, List, [], ◌∷◌, ◌++◌, append_assoc, append-nil, add-zero, zero-add, add_assoc, arith, is_ok, length, drop, length-append, length-take-le, take_at, drop-drop}
+use native.Mathlib.Nat.{sub-zero}
+use lib.Seq.{length_front, drop-append-add, sets, sets-eq}
 use Rattle.rules.specs.Rules.{Answer, done}
 use Rattle.rules.proofs.Answers.{done-is_ok, refused-is_ok}
 use Rattle.ring.specs.declared.Queue.{Queue}

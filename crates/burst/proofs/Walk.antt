@@ -1,10 +1,6 @@
 -- The walk over one packet's slots, from slot to slot: what is known after k of them, and what each way out finds. It is scan's walk, whatever the
 -- companion list. Assumes nothing.
-use Prim.Native.Nat.{ℕ, ◌+◌, ◌≤◌, ◌<◌}
-use mathlib.Core.Path.{◌≡◌, ◌∙◌}
-use mathlib.Core.Bool.{Bool, true, false}
-use mathlib.Core.List.{List}
-use native.Mathlib.Omega.{arith}
+use Rattle.std.proofs.Common.{ℕ, ◌+◌, ◌≤◌, ◌<◌, ◌≡◌, ◌∙◌, Bool, true, false, List, arith}
 use Rattle.rules.specs.declared.Refusal.TheVariants.{NotYet, Contradiction}
 use Rattle.rules.specs.Rules.{done}
 use Rattle.ring.specs.declared.Queue.{Queue}

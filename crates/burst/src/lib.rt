@@ -17,7 +17,7 @@ use rules::{Answer, Refusal};
 pub const PACKET_NUMBERS: usize = 3;
 
 // What a walk finds: the answer, the record's shared part after it, of a packet the slot count and the total length, and the slots examined.
-// Kept: zeros and the slots examined beside a refusal, since the contracts of packet and packets say both (found_by).
+// Kept: zeros and the slots examined beside a refusal, since the contracts of packet and packets say both (`found_by`).
 #[derive(Clone, Copy, Debug, PartialEq, Eq)]
 pub struct Found {
     pub answer: Answer,
@@ -28,6 +28,7 @@ pub struct Found {
 }
 
 // What a burst gives: the answer that stopped it, the record's shared part after it, the packets told and the slots examined.
+// Kept: receive's Burst is alike but for the record, which is whole there, and has its name from docs/MANUAL.md.
 #[derive(Clone, Copy, Debug, PartialEq, Eq)]
 pub struct Polled {
     pub answer: Answer,
@@ -51,6 +52,7 @@ fn refused(queue: Queue, refusal: Refusal, examined: usize) -> Found
 
 // Answers 4 or 5 at the first slot that asks for it, or the packet's two numbers: a take's scan, without what it builds. It goes from slot to slot,
 // and the slot that it comes to is the next head.
+// Kept: queue and buffer one by one, here and in packets: RxQueue, which has both, stands above this crate.
 fn packet(queue: Queue, buffer: usize, ring: &[u64]) -> Found
     requires { Reads queue (length ring.now) }
     ensures { FoundAs queue buffer ring.now result }
@@ -82,6 +84,7 @@ fn packet(queue: Queue, buffer: usize, ring: &[u64]) -> Found
 }
 
 // The three numbers of packet i.
+// Kept: the three numbers one by one, as the contract has them: Found has two of them, and its queue stands past the first slot.
 fn tell(out: &mut [u64], i: usize, first: usize, count: usize, total: usize)
     requires { packet_numbers * i + packet_numbers ≤ length out.old }
     ensures { out.new ≡ sets out.old (packet_numbers * i) (first ∷ count ∷ total ∷ []) }

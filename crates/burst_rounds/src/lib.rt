@@ -57,6 +57,7 @@ fn with_packets(run: Run, ring: &mut [u64], packets: usize, i: u64) -> Run {
 }
 
 // A burst; in an idle run the numbers of one that takes every packet.
+// Kept: ring and list one by one; receive_rounds says what a struct of them costs.
 fn burst(queue: RxQueue, ring: &[u64], list: &[u64], out: &mut [u64], asked: Asked) -> Burst {
     let packets = asked.packets;
     if asked.idle {

@@ -86,6 +86,7 @@ pub fn data_word(d: Data) -> u64
         | (d.tag & SIXTEEN_BITS) << TAG
 }
 
+// Kept: flags by shift and mask, and not by field's `flag`: 01 has that form for transmit word 1.
 pub fn read_data(w: u64) -> Data
     ensures { result ≡ read_data w }
 {

@@ -43,6 +43,7 @@ fn spell(out: &mut [u8], at: usize, count: usize, n: u64)
 
 // Puts a number's digits at a place, and answers the place after them; where they do not fit,
 // nothing is put, and the answer is the place itself.
+// Kept: the place itself where nothing is put, and no Option, here and in row: `Put` says it, and a caller goes on from the place either way.
 pub fn put_number(out: &mut [u8], at: usize, n: u64) -> usize
     ensures { Put out.old at (digits_of n) result out.new }
 {

@@ -6,6 +6,7 @@ ghost use Rattle.feed.specs.Feeding.{no_lines, next_of, last_of, more_of, RoomMa
 
 // The part of the memory that is not read yet, and whether it goes on a line of which the beginning
 // was given up.
+// Kept: long is a flag, here and in Line: a line without its beginning has a place and an end all the same (`next_of`, `last_of`).
 #[derive(Clone, Copy, Debug, PartialEq, Eq)]
 pub struct Lines {
     pub start: usize,

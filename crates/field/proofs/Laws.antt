@@ -1,17 +1,10 @@
 -- The laws of bit fields, over position and width: what is placed reads back, what stands beside it reads as before, and the word of a table reads back field by field.
 -- Assumes nothing.
-use mathlib.Core.Path.{◌≡◌, refl, sym, ap, ◌∙◌, subst}
-use mathlib.Core.Bool.{Bool, true, false}
-use mathlib.Core.Logic.{⊎_elim}
-use mathlib.Core.List.{List, [], ◌∷◌}
-use Prim.Native.Nat.{ℕ, zero, suc, ◌+◌, ◌-◌, ◌*◌, ◌/◌, ◌%◌, ◌^◌, ◌≤◌, ◌<◌}
-use native.Mathlib.Nat.{div-eq_of_lt, mul-one, add_comm, add-zero, zero-add, zero-mul, mul_assoc, mul_comm, mod-lt, mod-eq_of_lt, add-mul-mod_self_right, add-mul-div_right, lt_of_lt_of_le, le_of_suc-le-suc, not-suc-le-zero}
-use native.Mathlib.Omega.{arith}
+use Rattle.std.proofs.Common.{◌≡◌, refl, sym, ap, ◌∙◌, subst, Bool, true, false, ⊎_elim, List, [], ◌∷◌, ℕ, zero, suc, ◌+◌, ◌-◌, ◌*◌, ◌/◌, ◌%◌, ◌^◌, ◌≤◌, ◌<◌, mul-one, add_comm, add-zero, zero-add, zero-mul, mul_assoc, mul_comm, mod-lt, mod-eq_of_lt, lt_of_lt_of_le, le_of_suc-le-suc, not-suc-le-zero, arith, T, leb, ltb, ltb→lt, leb→le, eqb, bit_and, bit_or, length, pow_pos, pow_mono, pow-add, shr-shr, shl_exact}
+use native.Mathlib.Nat.{div-eq_of_lt, add-mul-mod_self_right, add-mul-div_right}
 use lib.Arith.{digits_lt}
-use lib.Dec.{T, leb, ltb, ltb→lt, leb→le, eqb}
-use lib.Bits.{bit_and, bit_or, and_mask, or_shifted_r}
-use lib.ListN.{length}
-use lib.Pow.{pow_pos, pow_mono, pow-add, shr-shr, split, high, shl_exact, mod-pow-add}
+use lib.Bits.{and_mask, or_shifted_r}
+use lib.Pow.{split, high, mod-pow-add}
 use mir.Facts.{and_yes, or_yes}
 use Rattle.field.specs.Field.{field_of, placed, replaced, Part, part, nth, Line, read_at, Fits, word_of, rising, end_of, apart, free, bit}
 

@@ -21,6 +21,7 @@ fn put_slot(ring: &mut [u64], slot: usize, first: u64, second: u64)
 }
 
 // The pieces before the last one, from slot start on; then the slot behind them. Their words 1 are alike but for the length.
+// Kept: ring, size and slot one by one, here and below: a struct that holds a lent slice needs a walk by hand at each caller (docs/DECISIONS.md).
 fn put_leading(
     ring: &mut [u64],
     size: usize,

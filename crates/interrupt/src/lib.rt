@@ -21,6 +21,7 @@ pub enum Enable {
 pub struct UnknownEnable(pub u64);
 
 // The ITR index goes with an interval in microseconds; the trigger has an index of its own.
+// Kept: trigger beside its index, and 3 for no ITR, as the register has them: a request that contradicts itself can be said, and is answered 9 (`wrongs`).
 #[derive(Clone, Copy, Debug, PartialEq, Eq)]
 pub struct Request {
     pub vector: u64,
@@ -34,7 +35,7 @@ pub struct Request {
 }
 
 // The answer, the register's offset and the word to write there.
-// Kept: zeros beside a refusal (01; edit word_beside_9).
+// Kept: zeros beside a refusal (`interrupt_of`; edit word_beside_9).
 #[derive(Clone, Copy, Debug, PartialEq, Eq)]
 pub struct Answer {
     pub answer: rules::Answer,

@@ -60,6 +60,7 @@ pub trait Number: Copy {
     ghost few: { WIDTH ≤ 8 };
 }
 
+// Kept: two impls that differ in type and width; an impl that a macro writes is refused.
 impl Number for u16 {
     ghost WIDTH = { 2 };
 

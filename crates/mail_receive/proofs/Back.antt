@@ -2,15 +2,7 @@
 -- Assumes nothing.
 use Rattle.rules.specs.Rules.{done}
 use Rattle.rules.specs.declared.Refusal.TheVariants.{NotYet}
-use Rattle.std.specs.Prelude.{Err}
-use Prim.Native.Nat.{ℕ, ◌^◌, ◌<◌}
-use mathlib.Core.Path.{◌≡◌, refl, ap, ◌∙◌}
-use mathlib.Core.Logic.{◌≢◌}
-use mathlib.Core.Bool.{true}
-use mathlib.Core.List.{List}
-use native.Mathlib.Omega.{arith}
-use lib.Dec.{lit<}
-use lib.ListN.{length}
+use Rattle.std.proofs.Common.{Err, ℕ, ◌^◌, ◌<◌, ◌≡◌, refl, ap, ◌∙◌, ◌≢◌, true, List, arith, lit<, length}
 use Rattle.element.specs.Element.{no_cookie, element_at}
 use Rattle.element.specs.Back.{Holds}
 use Rattle.mail_ring.specs.Ring.{ring_ok, tail_of}

@@ -1,15 +1,8 @@
 -- A record given back is accepted again; a refused call gives back what came.
 -- Assumes nothing.
 use Rattle.rules.proofs.Answers.{done_is, refused_is}
-use Rattle.std.specs.Prelude.{is_ok}
-use Prim.Native.Nat.{ℕ}
-use mathlib.Core.Path.{◌≡◌, refl, sym, ◌∙◌}
-use mathlib.Core.Logic.{◌≢◌}
-use mathlib.Core.Bool.{Bool, true, false, not}
-use mathlib.Core.List.{List, [], ◌∷◌}
-use borrow.Author.Tests.{not-false, eqb-true, eqb-false}
-use lib.Dec.{eqb}
-use lib.ListN.{length}
+use Rattle.std.proofs.Common.{is_ok, ℕ, ◌≡◌, refl, sym, ◌∙◌, ◌≢◌, Bool, true, false, not, List, [], ◌∷◌, eqb-true, eqb, length}
+use borrow.Author.Tests.{not-false, eqb-false}
 use Rattle.rules.specs.Rules.{◌when◌, done}
 use Rattle.rules.proofs.Checks.{passed}
 use Rattle.mail_ring.specs.Ring.{ring_ok, empty_ring, advanced}

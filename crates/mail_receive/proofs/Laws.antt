@@ -2,13 +2,8 @@
 -- Assumes nothing.
 use Rattle.rules.proofs.Answers.{done-is_ok, refused-is_ok}
 use Rattle.rules.specs.Rules.{done, Answer}
-use Prim.Native.Nat.{ℕ, ◌≤◌}
-use mathlib.Core.Path.{◌≡◌, sym}
-use mathlib.Core.Logic.{◌≢◌}
-use mathlib.Core.Bool.{true}
-use mathlib.Core.List.{List}
-use borrow.Author.Tests.{eq-eqb, ne_eqb, not-false}
-use lib.Dec.{eqb}
+use Rattle.std.proofs.Common.{ℕ, ◌≤◌, ◌≡◌, sym, ◌≢◌, true, List, eq-eqb, ne_eqb, eqb}
+use borrow.Author.Tests.{not-false}
 use Rattle.rules.proofs.Tests.{neither}
 use Rattle.rules.proofs.Checks.{passed}
 use Rattle.mail_ring.specs.Ring.{advanced}

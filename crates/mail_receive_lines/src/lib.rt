@@ -73,6 +73,7 @@ impl ReceiveSide {
     }
 
     // What a line that has no answer leaves of the record and the memory.
+    // Kept: as in mail_send_lines.
     fn set(&mut self, command: Command, numbers: &Numbers) {
         let i = numbers[0] as usize;
         match command {

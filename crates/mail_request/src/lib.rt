@@ -102,7 +102,7 @@ pub fn send_element(m: Message) -> Element
         ei: m.ei,
         fe: m.fe,
     };
-    // Kept: a `let` for the cookie, here and wherever an element's is read: the borrow checker refuses an array field that is given straight.
+    // Kept: a `let` for the cookie, here and where an element's is read: the borrow checker refuses an array field given straight to a struct's field.
     let cookie = m.cookie;
     Element {
         flags: mail_flags::flags_of(flags),

@@ -1,16 +1,8 @@
 -- What is seen of the element at head, case by case.
 -- Assumes nothing.
 use Rattle.rules.proofs.Answers.{done-is_ok}
-use Rattle.std.specs.Prelude.{is_ok}
-use mathlib.Core.Path.{◌≡◌, refl, sym, ◌∙◌}
-use mathlib.Core.Logic.{◌≢◌}
-use mathlib.Core.Bool.{Bool, true, false, not, cond}
-use mathlib.Core.List.{List, ◌++◌}
-use borrow.Author.Tests.{eq-eqb, ne_eqb, eqb-false, not-false}
-use Prim.Native.Nat.{ℕ}
-use native.Mathlib.Omega.{arith}
-use lib.Dec.{eqb}
-use lib.ListN.{length}
+use Rattle.std.proofs.Common.{is_ok, ◌≡◌, refl, sym, ◌∙◌, ◌≢◌, Bool, true, false, not, cond, List, ◌++◌, eq-eqb, ne_eqb, ℕ, arith, eqb, length}
+use borrow.Author.Tests.{eqb-false, not-false}
 use Rattle.rules.specs.Rules.{Check, answer_of, done, Answer, answer_at}
 use Rattle.rules.proofs.Tests.{neither}
 use Rattle.rules.proofs.Checks.{passed, asked_next}

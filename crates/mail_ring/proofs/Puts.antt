@@ -2,17 +2,7 @@
 -- that the device has; a refusal changes nothing.
 -- Assumes nothing.
 use Rattle.rules.proofs.Answers.{done-is_ok, refused-is_ok}
-use Rattle.std.specs.Prelude.{is_ok}
-use Prim.Native.Nat.{ℕ, ◌+◌, ◌*◌, ◌/◌, ◌%◌, ◌≤◌, ◌<◌}
-use mathlib.Core.Path.{◌≡◌, refl, ap, ◌∙◌}
-use mathlib.Core.Logic.{◌≢◌}
-use mathlib.Core.Bool.{Bool, true, false, cond}
-use mathlib.Core.List.{List}
-use native.Mathlib.Omega.{arith}
-use borrow.Author.Tests.{eq-eqb, ne_eqb}
-use lib.Dec.{eqb}
-use lib.ListN.{length, get_or, set, length-set}
-use lib.Seq.{get_or-set_same, get_or-set_other}
+use Rattle.std.proofs.Common.{is_ok, ℕ, ◌+◌, ◌*◌, ◌/◌, ◌%◌, ◌≤◌, ◌<◌, ◌≡◌, refl, ap, ◌∙◌, ◌≢◌, Bool, true, false, cond, List, arith, eq-eqb, ne_eqb, eqb, length, get_or, set, length-set, get_or-set_same, get_or-set_other}
 use Rattle.rules.specs.Rules.{answer_of, done, Answer, answer_at}
 use Rattle.rules.proofs.Checks.{by_answer}
 use Rattle.field.specs.Field.{read_at, is_set}

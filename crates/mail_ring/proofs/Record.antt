@@ -1,12 +1,7 @@
 -- What an accepted record and accepted lent slices keep, as facts; what keeps a record accepted.
 -- Assumes nothing.
-use Prim.Native.Nat.{ℕ, ◌+◌, ◌*◌, ◌-◌, ◌<◌}
-use mathlib.Core.Path.{◌≡◌}
-use mathlib.Core.Logic.{◌≢◌}
-use mathlib.Core.Bool.{true, false, ◌&&◌}
-use native.Mathlib.Omega.{arith}
-use borrow.Author.Tests.{lt-ltb, le-leb, ltb-true, eqb-true, eqb-false}
-use lib.Dec.{ltb, eqb}
+use Rattle.std.proofs.Common.{ℕ, ◌+◌, ◌*◌, ◌-◌, ◌<◌, ◌≡◌, ◌≢◌, true, false, ◌&&◌, arith, lt-ltb, le-leb, ltb-true, eqb-true, ltb, eqb}
+use borrow.Author.Tests.{eqb-false}
 use Rattle.rules.specs.Rules.{within}
 use Rattle.rules.proofs.Tests.{both, within_is}
 use Rattle.slots.specs.Steps.{Step}

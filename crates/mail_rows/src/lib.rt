@@ -1,4 +1,4 @@
-// What the lines of the mailbox share: a ring's memory as the bench holds it, the cookie as one number, and the rows of answers. A part of the
+// What the lines of the mailbox share: a ring's memory as the bench holds it, and the rows of answers. A part of the
 // program `probe`: what it prints is compared.
 #![tactic(auto)]
 

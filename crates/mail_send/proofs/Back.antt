@@ -1,14 +1,8 @@
 -- What was sent reads back: at once as its request, and completed by a device that sets DD and CMP and leaves the rest.
 -- Assumes nothing.
 use Rattle.rules.specs.Rules.{done}
-use Prim.Native.Nat.{ℕ, ◌^◌, ◌≤◌, ◌<◌}
-use mathlib.Core.Path.{◌≡◌, ap, ◌∙◌}
-use mathlib.Core.Bool.{Bool, true, false, cond}
-use mathlib.Core.List.{List}
-use native.Mathlib.Omega.{arith}
-use lib.Dec.{lit<}
+use Rattle.std.proofs.Common.{ℕ, ◌^◌, ◌≤◌, ◌<◌, ◌≡◌, ap, ◌∙◌, Bool, true, false, cond, List, arith, lit<, length}
 use Rattle.field.specs.Field.{bit}
-use lib.ListN.{length}
 use Rattle.element.specs.Element.{element_at}
 use Rattle.element.specs.Back.{Holds}
 use Rattle.mail_ring.specs.Ring.{tail_of}

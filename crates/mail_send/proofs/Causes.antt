@@ -1,13 +1,7 @@
 -- Exact causes: each number is answered exactly if its cause holds and no earlier one does (`Answers` of rules, both ways).
 -- Assumes nothing.
 use Rattle.rules.specs.declared.Refusal.TheVariants.{WrongRecord}
-use Rattle.std.specs.Prelude.{Err}
-use Prim.Native.Nat.{ℕ}
-use mathlib.Core.Path.{◌≡◌, refl}
-use mathlib.Core.Logic.{◌≢◌}
-use mathlib.Core.Bool.{not}
-use mathlib.Core.List.{List, [], ◌∷◌}
-use lib.ListN.{length}
+use Rattle.std.proofs.Common.{Err, ℕ, ◌≡◌, refl, ◌≢◌, not, List, [], ◌∷◌, length}
 use Rattle.rules.specs.Rules.{◌when◌, answer_of, Answers, done, answered, Answer}
 use Rattle.rules.proofs.Checks.{has_cause, is_answered, one_check}
 use Rattle.mail_ring.specs.Ring.{ring_ok, empty_ring}

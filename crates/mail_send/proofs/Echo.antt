@@ -2,16 +2,7 @@
 -- Assumes nothing.
 use Rattle.rules.proofs.Answers.{done-is_ok}
 use Rattle.rules.specs.declared.Refusal.TheVariants.{NotYet}
-use Rattle.std.specs.Prelude.{Err}
-use Prim.Native.Nat.{ℕ, ◌+◌, ◌*◌, ◌^◌, ◌≤◌, ◌<◌}
-use mathlib.Core.Path.{◌≡◌, refl, sym, ap, ◌∙◌}
-use mathlib.Core.Logic.{◌≢◌}
-use mathlib.Core.Bool.{Bool, true, false, not, ◌&&◌, ◌||◌, cond}
-use mathlib.Core.List.{List, [], ◌∷◌}
-use native.Mathlib.Omega.{arith}
-use borrow.Author.Tests.{ne_eqb, eq-eqb, le-ltb}
-use lib.Dec.{ltb, eqb}
-use lib.ListN.{length, get_or, length-set}
+use Rattle.std.proofs.Common.{Err, ℕ, ◌+◌, ◌*◌, ◌^◌, ◌≤◌, ◌<◌, ◌≡◌, refl, sym, ap, ◌∙◌, ◌≢◌, Bool, true, false, not, ◌&&◌, ◌||◌, cond, List, [], ◌∷◌, arith, ne_eqb, eq-eqb, le-ltb, ltb, eqb, length, get_or, length-set}
 use Rattle.rules.specs.Rules.{Answer, done as all_done, ◌when◌, answer_of}
 use Rattle.rules.proofs.Tests.{none}
 use Rattle.rules.proofs.Checks.{passed}

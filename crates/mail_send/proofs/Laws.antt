@@ -2,11 +2,8 @@
 -- Assumes nothing.
 use Rattle.rules.proofs.Answers.{done-is_ok, refused-is_ok}
 use Rattle.rules.specs.Rules.{done, Answer}
-use Prim.Native.Nat.{ℕ, ◌≤◌}
-use mathlib.Core.Path.{◌≡◌, sym}
-use mathlib.Core.Logic.{◌≢◌}
-use mathlib.Core.List.{List}
-use borrow.Author.Tests.{eq-eqb, ne_eqb, not-false}
+use Rattle.std.proofs.Common.{ℕ, ◌≤◌, ◌≡◌, sym, ◌≢◌, List, eq-eqb, ne_eqb}
+use borrow.Author.Tests.{not-false}
 use Rattle.rules.proofs.Checks.{passed}
 use Rattle.mail_ring.specs.Ring.{advanced}
 use Rattle.mail_ring.specs.Look.{look_of}

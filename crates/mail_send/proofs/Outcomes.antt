@@ -1,12 +1,9 @@
 -- The calls' statements fix their outcomes: any two that meet one are equal.
 -- Assumes nothing.
 use Rattle.rules.specs.Rules.{Answer}
-use Prim.Native.Nat.{ℕ}
-use mathlib.Core.Path.{◌≡◌}
-use mathlib.Core.List.{List}
+use Rattle.std.proofs.Common.{ℕ, ◌≡◌, List, Result}
 use Rattle.rules.specs.Outcomes.{Fixes}
 use Rattle.rules.proofs.Outcomes.{alike, equation}
-use Rattle.std.specs.Prelude.{Result}
 use Rattle.rules.specs.declared.Refusal.{Refusal}
 use Rattle.mail_ring.specs.Posting.{ring_after, list_after}
 use Rattle.mail_request.specs.declared.Message.{Message}

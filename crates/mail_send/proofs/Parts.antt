@@ -1,12 +1,7 @@
 -- Where the message of a completion lies: nowhere beside a refusal, else in the buffer or in the element.
 -- Assumes nothing.
 use Rattle.rules.specs.Rules.{done}
-use Prim.Native.Nat.{ℕ}
-use mathlib.Core.Path.{◌≡◌}
-use mathlib.Core.Logic.{◌≢◌}
-use mathlib.Core.Bool.{true, false}
-use mathlib.Core.List.{List, []}
-use lib.ListN.{length}
+use Rattle.std.proofs.Common.{ℕ, ◌≡◌, ◌≢◌, true, false, List, [], length}
 use denote.Ref.{Bor}
 use Rattle.mail_reading.specs.Reading.{completion_wrong, has_buffer}
 use Rattle.mail_reading.specs.Part.{PartIs, InBuffer, InElement}

@@ -2,12 +2,8 @@
 -- Assumes nothing.
 use Rattle.rules.proofs.Answers.{done-is_ok}
 use Rattle.rules.specs.Rules.{done, answer_at}
-use Prim.Native.Nat.{ℕ, ◌*◌}
-use mathlib.Core.Path.{◌≡◌, refl, ◌∙◌}
-use mathlib.Core.Bool.{true, false≢true}
-use mathlib.Core.List.{List, [], ◌∷◌}
-use borrow.Author.Tests.{eq-eqb}
-use lib.ListN.{length}
+use Rattle.std.proofs.Common.{ℕ, ◌*◌, ◌≡◌, refl, ◌∙◌, true, List, [], ◌∷◌, eq-eqb, length}
+use mathlib.Core.Bool.{false≢true}
 use Rattle.mail_ring.specs.Ring.{ring_ok, lent_ok}
 use Rattle.mail_request.specs.declared.Shutdown.{Shutdown}
 use Rattle.mail_send.specs.declared.SendRing.{SendRing}

@@ -103,6 +103,7 @@ impl SendSide {
     }
 
     // What a line that has no answer leaves of the record and the memory.
+    // Kept: mail_receive_lines has its own: the commands differ, and so does what is handed in.
     fn set(&mut self, command: Command, numbers: &Numbers) {
         let i = numbers[0] as usize;
         match command {

@@ -15,6 +15,7 @@ pub trait Told {
         ensures { result ≡ number self };
 }
 
+// Kept: an impl a type, most of them alike; an impl that a macro writes is refused.
 impl Told for u64 {
     ghost number = { λ n. n };
 
@@ -67,10 +68,7 @@ impl Told for Answer {
     ghost number = { number_of };
 
     fn told(self) -> u64 {
-        match self {
-            Ok(()) => 0,
-            Err(refusal) => u64::from(u8::from(refusal)),
-        }
+        u64::from(rules::number_of(self))
     }
 }
 

@@ -1,5 +1,6 @@
 // The device's side of the rings: where it stands, and what it writes.
 use crate::MOST_SLOTS;
+use parts::store;
 
 // Bits 3:0 of word 1 in the last slot of a packet that is sent.
 const DONE: u64 = 15;
@@ -10,12 +11,6 @@ const MIDDLE: u64 = 0x1;
 const LAST: u64 = 0x68000300B;
 
 const LENGTH: u64 = 38;
-
-pub fn set(list: &mut [u64], at: usize, value: u64) {
-    if let Some(place) = list.get_mut(at) {
-        *place = value;
-    }
-}
 
 // The slot so many further round the ring; 0 where the slot is none, or that is more than once round.
 pub fn further(at: usize, by: usize, size: usize) -> usize {
@@ -48,14 +43,14 @@ pub fn empty_word() -> u64 {
 // The write-back of a received slot, with a number of the packet's in word 0.
 pub fn write_back(ring: &mut [u64], at: usize, i: u64, word1: u64) {
     if at < MOST_SLOTS {
-        set(ring, 2 * at, i << 32 | 0x123);
-        set(ring, 2 * at + 1, word1);
+        store(ring, 2 * at, i << 32 | 0x123);
+        store(ring, 2 * at + 1, word1);
     }
 }
 
 // The mark in the last slot of a packet that is sent.
 pub fn mark(ring: &mut [u64], last: usize) {
     if last < MOST_SLOTS {
-        set(ring, 2 * last + 1, DONE);
+        store(ring, 2 * last + 1, DONE);
     }
 }

@@ -1,5 +1,5 @@
 // The pieces of a packet that is sent.
-use crate::device::set;
+use parts::store;
 
 fn address(i: u64) -> u64 {
     0x100000 | (i % 65536) << 14
@@ -12,15 +12,20 @@ pub fn lay_out(addresses: &mut [u64], lengths: &mut [u64], behind: u64) {
         .checked_div((n as u64).saturating_sub(1))
         .unwrap_or(0);
     let mut left = behind;
-    for i in 1..n {
-        set(addresses, i, address(i as u64));
-        set(lengths, i, if i + 1 < n { each } else { left });
+    for (i, (place, length)) in addresses
+        .iter_mut()
+        .zip(lengths.iter_mut())
+        .enumerate()
+        .skip(1)
+    {
+        *place = address(i as u64);
+        *length = if i + 1 < n { each } else { left };
         left = left.saturating_sub(each);
     }
 }
 
 // The first piece, laid out anew.
 pub fn lay_first(addresses: &mut [u64], lengths: &mut [u64], i: u64, first: u64) {
-    set(addresses, 0, address(i));
-    set(lengths, 0, first);
+    store(addresses, 0, address(i));
+    store(lengths, 0, first);
 }

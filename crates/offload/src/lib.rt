@@ -95,6 +95,7 @@ pub fn request_ok(lengths: &[u64], total: u64, maximum: u64, request: Request) -
     ensures { result ≡ request_ok lengths.now maximum request }
 {
     if headers_ok(request) {
+        // Kept: written here and in packet: a function of it would require that the sum does not wrap, which another fact shows at either place.
         let header = request.mac_length + request.ip_length + request.l4_length;
         let tag = (request.tag <= MOST_TAG) & (request.vlan | (request.tag == 0));
         (header <= total) & tag & segmentation_ok(lengths, maximum, header, request)

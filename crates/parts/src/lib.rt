@@ -1,7 +1,7 @@
-// Parts of a text, and of any memory.
+// Parts of a text and of any memory, and a number stored in it.
 #![tactic(auto)]
 
-ghost use Rattle.std.specs.Prelude.{◌≡◌, take};
+ghost use Rattle.std.specs.Prelude.{◌≡◌, set, take};
 ghost use Rattle.std.proofs.Math.Seq.{slice};
 
 // The first bytes of a text, or numbers of a memory: so many, or all that there are.
@@ -25,4 +25,13 @@ pub fn part(text: &[u8], from: usize, to: usize) -> &[u8]
 {
     let held = first(text, to);
     &held[from.min(held.len())..]
+}
+
+// Stores a number, or a byte, where the place is one of the memory.
+pub fn store<T: Copy>(memory: &mut [T], at: usize, value: T)
+    ensures { memory.new ≡ set memory.old at value }
+{
+    if at < memory.len() {
+        memory[at] = value;
+    }
 }

@@ -62,7 +62,7 @@ fn total_ok(total: u64, maximum: u64, request: Request) -> bool
 // ---- 6 and 2 in one walk
 
 // The lengths, the addresses and the total. It ends at the first length that is wrong.
-// Kept: two lists side by side, here and in fill and runs, since 01 has a send take the pieces as two slices ("the covered two-slice send").
+// Kept: two lists side by side, here, in packet, fill and transmit, since 01 has a send take the pieces as two slices ("the covered two-slice send").
 fn walk(addresses: &[u64], lengths: &[u64], maximum: u64, request: Request) -> Option<Found>
     requires { Walkable addresses.now lengths.now }
     ensures { result ≡ found_if (lengths_ok lengths.now) addresses.now lengths.now maximum request }

@@ -2,17 +2,8 @@
 -- Assumes nothing.
 use Rattle.rules.specs.declared.Refusal.TheVariants.{WrongRecord, NotYet, Contradiction, WrongLimit}
 use Rattle.rules.proofs.Answers.{refused_is, done-is_ok, refused-is_ok, done_or_not}
-use Rattle.std.specs.Prelude.{is_ok, Err}
-use Prim.Native.Nat.{ℕ, zero, suc, ◌+◌, ◌*◌, ◌≤◌, ◌<◌}
-use mathlib.Core.Path.{◌≡◌, refl, sym, ap, ◌∙◌}
-use mathlib.Core.Logic.{◌≢◌, ◌⊎◌, inl, inr, ⊎_elim}
-use mathlib.Core.Bool.{Bool, true, false, not, ◌&&◌, cond}
-use mathlib.Core.List.{List, [], ◌∷◌, ◌++◌, map}
-use native.Mathlib.Omega.{arith}
-use borrow.Author.Tests.{eqb-true, not-false}
-use lib.Dec.{eqb}
-use lib.ListN.{length, get_or, drop}
-use lib.Seq.{get_or-append-add, get_or-drop}
+use Rattle.std.proofs.Common.{is_ok, Err, ℕ, zero, suc, ◌+◌, ◌*◌, ◌≤◌, ◌<◌, ◌≡◌, refl, sym, ap, ◌∙◌, ◌≢◌, ◌⊎◌, inl, inr, ⊎_elim, Bool, true, false, not, ◌&&◌, cond, List, [], ◌∷◌, ◌++◌, map, arith, eqb-true, eqb, length, get_or, drop, get_or-append-add, get_or-drop}
+use borrow.Author.Tests.{not-false}
 use Rattle.rules.specs.Rules.{within, Answer, done, number_of, answer_at}
 use Rattle.rules.proofs.Tests.{both, within_is}
 use Rattle.rules.proofs.Checks.{passed, asked_next, first_pass}

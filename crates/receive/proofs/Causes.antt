@@ -1,13 +1,7 @@
 -- Exact causes: each answer is given exactly if its cause holds and no earlier one does (`Answers` of rules, both ways).
 -- Assumes nothing.
 use Rattle.rules.specs.declared.Refusal.TheVariants.{WrongRecord}
-use Rattle.std.specs.Prelude.{Err}
-use Prim.Native.Nat.{ℕ}
-use mathlib.Core.Path.{◌≡◌, refl, sym, ◌∙◌}
-use mathlib.Core.Logic.{◌≢◌}
-use mathlib.Core.Bool.{Bool, true, false, not, ◌&&◌, cond}
-use mathlib.Core.List.{List, [], ◌∷◌}
-use lib.ListN.{length}
+use Rattle.std.proofs.Common.{Err, ℕ, ◌≡◌, refl, sym, ◌∙◌, ◌≢◌, Bool, true, false, not, ◌&&◌, cond, List, [], ◌∷◌, length}
 use Rattle.rules.specs.Rules.{Answer, done, ◌when◌, answer_of, Answers}
 use Rattle.rules.proofs.Checks.{has_cause, is_answered, one_check}
 use Rattle.ring.specs.Sizes.{queue_ok}

@@ -1,10 +1,7 @@
 -- What the calls make of the counts. An accepted post adds its slot to those ever posted; a take adds the slots of its packet to those ever
 -- handed back, and a burst those of its takes; a refused call adds none, since its packet has no slots.
 -- Assumes nothing.
-use Rattle.std.specs.Prelude.{is_ok}
-use Prim.Native.Nat.{ℕ}
-use mathlib.Core.Bool.{Bool, true, false, cond}
-use mathlib.Core.List.{List}
+use Rattle.std.proofs.Common.{is_ok, ℕ, Bool, true, false, cond, List}
 use Rattle.ring.specs.Counts.{Moved}
 use Rattle.ring.proofs.Counts.{stay, by_grown, by_advanced, moved_both}
 use Rattle.scan.specs.Scan.{Look, refuse, whole}

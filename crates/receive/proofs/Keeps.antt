@@ -1,11 +1,7 @@
 -- A record given back by any call on an accepted record is accepted again, and so is a fresh one.
 -- Assumes nothing.
 use Rattle.rules.specs.Rules.{done}
-use Prim.Native.Nat.{ℕ, ◌≤◌}
-use mathlib.Core.Path.{◌≡◌, refl}
-use mathlib.Core.Bool.{true}
-use mathlib.Core.List.{List}
-use lib.ListN.{length}
+use Rattle.std.proofs.Common.{ℕ, ◌≤◌, ◌≡◌, refl, true, List, length}
 use Rattle.rules.proofs.Tests.{both}
 use Rattle.rules.proofs.Checks.{by_answer}
 use Rattle.ring.specs.Queue.{shared_ok}

@@ -1,12 +1,7 @@
 -- What an accepted record and accepted lent slices keep, as facts; and what an accepted post does.
 -- Assumes nothing.
-use Rattle.std.specs.Prelude.{IfOk}
-use Prim.Native.Nat.{ℕ, ◌*◌, ◌^◌, ◌≤◌, ◌<◌}
-use mathlib.Core.Path.{◌≡◌, sym, ◌∙◌}
-use mathlib.Core.Bool.{true, not, ◌&&◌}
-use mathlib.Core.List.{[], ◌∷◌}
-use borrow.Author.Tests.{eqb-true, not-false}
-use lib.Dec.{eqb}
+use Rattle.std.proofs.Common.{IfOk, ℕ, ◌*◌, ◌^◌, ◌≤◌, ◌<◌, ◌≡◌, sym, ◌∙◌, true, not, ◌&&◌, [], ◌∷◌, eqb-true, eqb}
+use borrow.Author.Tests.{not-false}
 use Rattle.rules.specs.Rules.{◌when◌, done}
 use Rattle.rules.proofs.Tests.{both, steps_is}
 use Rattle.rules.proofs.Checks.{passed}

@@ -1,11 +1,8 @@
 -- The calls' statements fix their outcomes: any two that meet one are equal.
 -- Assumes nothing.
-use Prim.Native.Nat.{ℕ}
-use mathlib.Core.Path.{◌≡◌}
-use mathlib.Core.List.{List}
+use Rattle.std.proofs.Common.{ℕ, ◌≡◌, List, Result}
 use Rattle.rules.specs.Outcomes.{Fixes}
 use Rattle.rules.proofs.Outcomes.{alike, equation}
-use Rattle.std.specs.Prelude.{Result}
 use Rattle.rules.specs.declared.Refusal.{Refusal}
 use Rattle.receive.specs.declared.RxQueue.{RxQueue}
 use Rattle.receive.specs.declared.Fresh.{Fresh}

@@ -2,16 +2,7 @@
 -- Assumes nothing.
 use Rattle.rules.proofs.Answers.{done-is_ok, refused-is_ok}
 use Rattle.rules.specs.Rules.{done}
-use Rattle.std.specs.Prelude.{is_ok}
-use Prim.Native.Nat.{ℕ, ◌*◌, ◌<◌}
-use mathlib.Core.Path.{◌≡◌, refl, ap, ◌∙◌}
-use mathlib.Core.Logic.{◌≢◌}
-use mathlib.Core.Bool.{Bool, true, false, cond}
-use mathlib.Core.List.{List, [], ◌∷◌, ◌++◌}
-use native.Mathlib.Numerals.{add-one}
-use native.Mathlib.Omega.{arith}
-use lib.ListN.{length, set}
-use lib.Seq.{get_or-set_same, get_or-set_other}
+use Rattle.std.proofs.Common.{is_ok, ℕ, ◌*◌, ◌<◌, ◌≡◌, refl, ap, ◌∙◌, ◌≢◌, Bool, true, false, cond, List, [], ◌∷◌, ◌++◌, add-one, arith, length, set, get_or-set_same, get_or-set_other}
 use Rattle.ring.specs.Queue.{tail_of}
 use Rattle.ring.proofs.Record.{tail_below}
 use Rattle.slots.proofs.Stores.{read_same, read_other}

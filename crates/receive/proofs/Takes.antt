@@ -1,16 +1,9 @@
 -- What take gives back: zeros beside a refusal, and else exactly the first of the posted slots that make a packet as the device's rules have it.
 -- Assumes nothing.
 use Rattle.rules.specs.declared.Refusal.TheVariants.{WrongRecord}
-use Rattle.std.specs.Prelude.{Err}
+use Rattle.std.proofs.Common.{Err, ℕ, ◌≤◌, ◌≡◌, refl, ap, ◌∙◌, ◌≢◌, Bool, true, false, not, cond, List, [], ◌++◌, arith, length, take}
 use Rattle.rules.specs.Rules.{done}
 use Rattle.rules.proofs.Answers.{refused_is}
-use Prim.Native.Nat.{ℕ, ◌≤◌}
-use mathlib.Core.Path.{◌≡◌, refl, ap, ◌∙◌}
-use mathlib.Core.Logic.{◌≢◌}
-use mathlib.Core.Bool.{Bool, true, false, not, cond}
-use mathlib.Core.List.{List, [], ◌++◌}
-use native.Mathlib.Omega.{arith}
-use lib.ListN.{length, take}
 use lib.Seq.{take-append_seam}
 use Rattle.family.specs.Types.{family_of}
 use Rattle.places.specs.Words.{length_of}

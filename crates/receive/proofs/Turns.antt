@@ -4,15 +4,7 @@
 use Rattle.rules.specs.declared.Refusal.TheVariants.{NotYet, Contradiction}
 use Rattle.rules.specs.Rules.{done}
 use Rattle.rules.proofs.Answers.{done_is, refused_is, done-is_ok, refused-is_ok}
-use Rattle.std.specs.Prelude.{is_ok, Err}
-use Prim.Native.Nat.{ℕ, zero, suc, ◌+◌, ◌*◌, ◌≤◌}
-use mathlib.Core.Path.{◌≡◌, refl, sym, ap, ◌∙◌}
-use mathlib.Core.Logic.{◌≢◌, ◌⊎◌, inl, inr, ⊎_elim}
-use mathlib.Core.Bool.{Bool, true, false, cond}
-use mathlib.Core.List.{List, [], ◌∷◌, map}
-use native.Mathlib.Nat.{add-zero}
-use native.Mathlib.Omega.{arith}
-use lib.ListN.{length}
+use Rattle.std.proofs.Common.{is_ok, Err, ℕ, zero, suc, ◌+◌, ◌*◌, ◌≤◌, ◌≡◌, refl, sym, ap, ◌∙◌, ◌≢◌, ◌⊎◌, inl, inr, ⊎_elim, Bool, true, false, cond, List, [], ◌∷◌, map, add-zero, arith, length}
 use Rattle.scan.specs.Slots.{posted_slots}
 use Rattle.scan.specs.Scan.{packet_slots, examined, Look, refuse, whole, scan}
 use Rattle.scan.specs.Told.{sum}

@@ -3,11 +3,10 @@
 #![tactic(auto)]
 
 use command::Command;
+use parts::store;
 use receive::RxQueue;
 use ring::Queue;
-use script::{
-    Memory, Numbers, OUT, RING, Row, SLOTS, asked_row, fresh_row, poke, queue_of, queue_row,
-};
+use script::{Memory, Numbers, OUT, RING, Row, SLOTS, asked_row, fresh_row, queue_of, queue_row};
 
 // The receive queue, its memory, and the burst's list.
 #[derive(Drop)]
@@ -68,8 +67,8 @@ impl Rx {
         let i = numbers[0] as usize;
         match command {
             Command::RxSet => self.hand_in(numbers),
-            Command::RxPoke => poke(&mut self.memory.ring, i, numbers[1]),
-            Command::RxList => poke(&mut self.memory.list, i, numbers[1]),
+            Command::RxPoke => store(&mut self.memory.ring, i, numbers[1]),
+            Command::RxList => store(&mut self.memory.list, i, numbers[1]),
             _ => {}
         }
     }

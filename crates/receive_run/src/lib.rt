@@ -7,6 +7,7 @@ use receive::{RxQueue, Taken};
 const BUFFER: usize = 2048;
 
 // The record and the sum as far as a run has come, and the device's place.
+// Kept: send_rounds has a Run of its own: its record is another, and it follows the last packet's end where this follows the device.
 #[derive(Clone, Copy)]
 pub struct Run {
     pub queue: RxQueue,
@@ -33,7 +34,7 @@ impl Run {
             .0
     }
 
-    // Kept: docs/BENCH.md, as for post, burst, send, reclaim, ask and look_up: an idle run is the same loop; with a closure a step it would be another.
+    // Kept: docs/BENCH.md subtracts an idle run of the same loop; a closure would hold this very test, here and in post, burst, send, reclaim, ask, look_up.
     // A take; in an idle run a packet that was seen before.
     pub fn take(self, ring: &[u64], list: &[u64], seen: Taken, idle: bool) -> Taken {
         if idle {

@@ -19,7 +19,7 @@ const SIZE_MOST: usize = 4096;
 const SIZE_STEP: usize = 32;
 
 // The counts are 64-bit numbers.
-const COUNT_MOST: u64 = 0xffffffffffffffff;
+const COUNT_MOST: u64 = u64::MAX;
 
 // A queue's tail register stands so many bytes after the one before.
 const REGISTER_STEP: usize = 4;
@@ -54,8 +54,7 @@ impl Queue {
         ensures { result ≡ counts_ok self.posted (ever_posted self) (ever_returned self) }
     {
         (self.ever_returned <= self.ever_posted)
-            & (std::num::wrapping_add_u64(self.posted as u64, self.ever_returned)
-                == self.ever_posted)
+            & ((self.posted as u64).wrapping_add(self.ever_returned) == self.ever_posted)
     }
 
     // Head, posted and the counts, queue number and size keep their lines. Those that a call moves are tested first, and by a branch: docs/BENCH.md has why.
@@ -126,6 +125,7 @@ impl Queue {
     }
 
     // The tail of a record that has been judged.
+    // Kept: ok is a bool, and the test stands here and in the register: only where it holds does `Judged` give what the value needs.
     pub fn tail_value(self, ok: bool) -> Result<usize, Refusal>
         requires { Judged self ok }
         ensures { result ≡ asked_of ok (tail_of self) }

@@ -49,6 +49,7 @@ impl From<u64> for Operation {
 }
 
 // A line as far as it is read.
+// Kept: places not reached are 0, and `at` is the one that is being read: a vector would hold a number more than are read.
 #[derive(Clone, Copy, Debug, Default, PartialEq, Eq)]
 struct Line {
     values: [u64; NUMBERS],

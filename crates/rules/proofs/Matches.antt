@@ -1,11 +1,6 @@
 -- What the last arm of a match knows: the number is none of those before it. And values that go by their numbers.
 -- Assumes nothing.
-use Prim.Native.Nat.{ℕ}
-use mathlib.Core.Path.{◌≡◌, refl, sym, ap, ◌∙◌}
-use mathlib.Core.Bool.{true}
-use mathlib.Core.List.{List, [], ◌∷◌}
-use borrow.Author.Tests.{eqb-true, ne_eqb}
-use lib.Dec.{eqb}
+use Rattle.std.proofs.Common.{ℕ, ◌≡◌, refl, sym, ap, ◌∙◌, true, List, [], ◌∷◌, eqb-true, ne_eqb, eqb}
 use Rattle.rules.specs.Rules.{Line, listed_at}
 
 -- a number that is none of these

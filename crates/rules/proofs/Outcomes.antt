@@ -1,6 +1,6 @@
 -- Any two outcomes that meet a call's statement are equal, whatever the shape of the statement, if it says what the outcome is.
 -- Assumes nothing.
-use mathlib.Core.Path.{◌≡◌, sym, ◌∙◌}
+use Rattle.std.proofs.Common.{◌≡◌, sym, ◌∙◌}
 use Rattle.rules.specs.Outcomes.{Fixes}
 
 pub alike : {A : Type 0} {Says : A → Type 0} {x : A} → Fixes Says x → (a b : A) → Says a → Says b → a ≡ b

@@ -57,7 +57,7 @@ pub fn number_of(answer: Answer) -> u8
 }
 
 // The largest 64-bit number.
-const LAST: u64 = 18446744073709551615;
+const LAST: u64 = u64::MAX;
 
 // The bytes from an address to the end of memory; none at address 0.
 fn reach(address: u64) -> u64

@@ -97,7 +97,7 @@ fn run_bytes(lengths: &[u64], from: usize, upto: usize) -> u64
         if l <= MOST_LENGTH - bytes {
             bytes += l;
         } else {
-            // Kept: noted says that number.
+            // Kept: a number past the most, and no Option: `noted` has it in the list.
             return MOST_LENGTH + 1;
         }
     }
@@ -110,10 +110,11 @@ pub fn join_lengths(lengths: &[u64], plan: &[u64], sizes: &mut [u64])
     ensures { sizes.new ≡ noted (joined lengths.now plan.now) }
 {
     let mut at = 0;
-    // Kept: the library's law of a zip's turn, zip_turn, is of two shared slices and none of iter_mut; so in the two functions below as well.
-    for r in 0..plan.len() {
+    // Kept: a zip with plan was tried, here, in join_addresses and in place_copies. What is stored through it is not known after the loop: a proof
+    // knows the slice's length and not its elements (the library's NOT_COVERED.md), so that `returns` does not close.
+    for (r, size) in sizes.iter_mut().enumerate() {
         let next = at + plan[r] as usize;
-        sizes[r] = run_bytes(lengths, at, next);
+        *size = run_bytes(lengths, at, next);
         at = next;
     }
 }
@@ -131,9 +132,9 @@ pub fn join_addresses(addresses: &[u64], plan: &[u64], places: &mut [u64])
     ensures { places.new ≡ joined_addresses addresses.now plan.now valid }
 {
     let mut at = 0;
-    for r in 0..plan.len() {
+    for (r, place) in places.iter_mut().enumerate() {
         let p = plan[r];
-        places[r] = run_address(p, addresses[at], VALID);
+        *place = run_address(p, addresses[at], VALID);
         at += p as usize;
     }
 }
@@ -143,7 +144,7 @@ pub fn place_copies(plan: &[u64], joined: &[u64], places: &mut [u64])
     requires { (length joined.now ≡ length plan.now) × (length places.old ≡ length plan.now) }
     ensures { Placed plan.now joined.now places.old places.new }
 {
-    for r in 0..plan.len() {
-        places[r] = run_address(plan[r], places[r], joined[r]);
+    for (r, place) in places.iter_mut().enumerate() {
+        *place = run_address(plan[r], *place, joined[r]);
     }
 }

@@ -1,11 +1,6 @@
 -- A packet's slots one at a time: what one slot more adds to the padded places, to the sum and to what is seen.
 -- Assumes nothing.
-use Prim.Native.Nat.{ℕ, zero, suc, ◌+◌, ◌≤◌, ◌<◌}
-use mathlib.Core.Path.{◌≡◌, refl, ap, ◌∙◌}
-use mathlib.Core.List.{List, [], ◌∷◌, ◌++◌, map}
-use native.Mathlib.Nat.{zero-add, add-zero, add_assoc}
-use native.Mathlib.Omega.{arith}
-use lib.ListN.{length, get_or, set, take, replicate}
+use Rattle.std.proofs.Common.{ℕ, zero, suc, ◌+◌, ◌≤◌, ◌<◌, ◌≡◌, refl, ap, ◌∙◌, List, [], ◌∷◌, ◌++◌, map, zero-add, add-zero, add_assoc, arith, length, get_or, set, take, replicate}
 use Rattle.rules.specs.declared.Refusal.{Refusal}
 use Rattle.scan.specs.Slots.{Slot}
 use Rattle.scan.specs.Scan.{packet_slots, Look, refuse, whole, and_then}

@@ -1,13 +1,9 @@
 -- The rule of a slot, by what the slot holds.
 -- Assumes nothing.
-use Prim.Native.Nat.{ℕ, ◌≤◌, ◌<◌}
-use mathlib.Core.Path.{◌≡◌, refl, sym, ◌∙◌}
-use mathlib.Core.Logic.{◌≢◌, ◌⊎◌, inl, inr}
-use mathlib.Core.Bool.{Bool, true, false, ◌&&◌, cond, and-true, and-false, true≢false}
+use Rattle.std.proofs.Common.{ℕ, ◌≤◌, ◌<◌, ◌≡◌, refl, sym, ◌∙◌, ◌≢◌, ◌⊎◌, inl, inr, Bool, true, false, ◌&&◌, cond, true≢false, arith, leb-true, ltb-true, ltb-false, le-leb, ne_eqb, leb, ltb}
+use mathlib.Core.Bool.{and-true, and-false}
 use native.Mathlib.Decide.{ℕ_discrete}
-use native.Mathlib.Omega.{arith}
-use borrow.Author.Tests.{leb-true, ltb-true, ltb-false, le-leb, ne_eqb}
-use lib.Dec.{leb, ltb, leb-zero}
+use lib.Dec.{leb-zero}
 use Rattle.rules.specs.Rules.{within}
 use Rattle.rules.proofs.Tests.{both}
 use Rattle.places.specs.Words.{Words, dd, eop, length_of}

@@ -1,14 +1,8 @@
 -- What a scan sees: whole, exactly the first of the slots that make a packet as the device's rules have it; and what is told of each of them.
 -- Assumes nothing.
-use Prim.Native.Nat.{ℕ, suc, ◌+◌, ◌-◌, ◌≤◌, ◌<◌}
-use mathlib.Core.Path.{◌≡◌, refl, sym, ap, ◌∙◌}
-use mathlib.Core.Logic.{◌⊎◌, inl, inr}
-use mathlib.Core.Bool.{Bool, true, false, not, ◌&&◌, cond, true≢false}
-use mathlib.Core.List.{List, [], ◌∷◌, ◌++◌, map}
-use native.Mathlib.Omega.{arith}
+use Rattle.std.proofs.Common.{ℕ, suc, ◌+◌, ◌-◌, ◌≤◌, ◌<◌, ◌≡◌, refl, sym, ap, ◌∙◌, ◌⊎◌, inl, inr, Bool, true, false, not, ◌&&◌, cond, true≢false, List, [], ◌∷◌, ◌++◌, map, arith, length, get_or, take, length-append, Err}
 use borrow.Author.Tests.{not-true}
-use lib.ListN.{length, get_or, take, length-map, get_or-eq_default, length-append}
-use Rattle.std.specs.Prelude.{Err}
+use lib.ListN.{length-map, get_or-eq_default}
 use Rattle.rules.specs.declared.Refusal.{Refusal}
 use Rattle.rules.specs.declared.Refusal.TheVariants.{NotYet, Contradiction}
 use Rattle.rules.specs.Rules.{Answer, done, answer_of}

@@ -1,13 +1,8 @@
 -- The scan slot by slot, as the code walks the posted slots: what is known after k of them, and what the next one makes of it.
 -- Assumes nothing.
-use Prim.Native.Nat.{ℕ, suc, ◌+◌, ◌-◌, ◌*◌, ◌/◌, ◌^◌, ◌≤◌, ◌<◌}
-use mathlib.Core.Path.{◌≡◌, refl, sym, ap, ◌∙◌}
-use mathlib.Core.Bool.{Bool, true, false, cond}
-use mathlib.Core.List.{List, [], ◌∷◌, ◌++◌, map}
-use native.Mathlib.Nat.{zero-add, add-zero, sub-zero, add-suc, mod-lt}
-use native.Mathlib.Numerals.{add-one}
-use native.Mathlib.Omega.{arith}
-use lib.ListN.{length, set, length-map}
+use Rattle.std.proofs.Common.{ℕ, suc, ◌+◌, ◌-◌, ◌*◌, ◌/◌, ◌^◌, ◌≤◌, ◌<◌, ◌≡◌, refl, sym, ap, ◌∙◌, Bool, true, false, cond, List, [], ◌∷◌, ◌++◌, map, zero-add, add-zero, add-suc, mod-lt, add-one, arith, length, set}
+use native.Mathlib.Nat.{sub-zero}
+use lib.ListN.{length-map}
 use Rattle.rules.specs.declared.Refusal.TheVariants.{NotYet, Contradiction}
 use Rattle.rules.specs.Rules.{done}
 use Rattle.ring.specs.declared.Queue.{Queue}

@@ -1,13 +1,6 @@
 -- The rule slot by slot and 02's sentence on a packet say the same: what is a packet by the one is one by the other.
 -- Assumes nothing.
-use Prim.Native.Nat.{ℕ, suc, ◌+◌, ◌≤◌, ◌<◌}
-use mathlib.Core.Path.{◌≡◌, refl, ap}
-use mathlib.Core.Logic.{⊎_elim}
-use mathlib.Core.Bool.{true, false}
-use mathlib.Core.List.{List, [], ◌∷◌, ◌++◌}
-use native.Mathlib.Omega.{arith}
-use borrow.Author.Tests.{le-leb, lt-ltb}
-use lib.ListN.{length}
+use Rattle.std.proofs.Common.{ℕ, suc, ◌+◌, ◌≤◌, ◌<◌, ◌≡◌, refl, ap, ⊎_elim, true, false, List, [], ◌∷◌, ◌++◌, arith, le-leb, lt-ltb, length}
 use Rattle.rules.proofs.Tests.{within_is}
 use Rattle.places.specs.Words.{eop, length_of}
 use Rattle.scan.specs.Slots.{Slot}

@@ -15,7 +15,7 @@ pub const PACKET_SLOTS: usize = DATA_SLOTS + 1;
 
 // What a scan gives: the answer, the record's shared part after it, and of a packet the slot count, the total length, each slot's address and length
 // (places past the slots are 0) and the last slot's words.
-// Kept: zeros beside a refusal, as a take gives them on (01; edits refused_of_one, refused_addresses); and its two arrays, as in receive's Packet.
+// Kept: zeros beside a refusal (`seen_by`; edits refused_of_one, refused_addresses); and two arrays, as in receive's Packet.
 #[derive(Clone, Copy, Debug, PartialEq, Eq)]
 pub struct Seen {
     pub answer: Answer,

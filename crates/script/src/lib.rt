@@ -3,7 +3,7 @@
 #![tactic(auto)]
 
 use arrayvec::ArrayVec;
-use parts::{first, first_mut};
+use parts::{first, first_mut, store};
 use ring::Queue;
 use rules::{Answer, Refusal, number_of};
 use sum::{Summand, sum_of};
@@ -161,19 +161,12 @@ pub fn asked_row(asked: Result<usize, Refusal>) -> Row {
     }
 }
 
-// Writes memory, where the place is one of it.
-pub fn poke<T: Copy>(memory: &mut [T], i: usize, value: T) {
-    if let Some(place) = memory.get_mut(i) {
-        *place = value;
-    }
-}
-
 // Writes a narrower memory; a line with a greater number is a bad one.
 pub fn poke_from<T: TryFrom<u64> + Copy>(memory: &mut [T], i: usize, value: u64)
 where
     <T as TryFrom<u64>>::Error: Drop,
 {
     if let Ok(narrow) = T::try_from(value) {
-        poke(memory, i, narrow);
+        store(memory, i, narrow);
     }
 }

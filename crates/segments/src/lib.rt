@@ -34,12 +34,11 @@ fn header_pieces(lengths: &[u64], header: u64) -> usize
     ensures { Headed lengths.now header result }
 {
     let mut s = 0;
-    // Kept: i is the answer; `for (i, &length) in lengths.iter().enumerate().take(HEADER_PIECES)` names it too, and saves one index.
-    for i in 0..HEADER_PIECES {
+    for (i, &length) in lengths.iter().enumerate().take(HEADER_PIECES) {
         if header <= s {
             return i;
         }
-        s += lengths[i];
+        s += length;
     }
     HEADER_PIECES
 }
@@ -60,7 +59,7 @@ fn segment_start(byte: u64, step: u32) -> u64
     byte - (byte as u32 % step) as u64
 }
 
-// Whether some segment touches over 8 pieces. The run of payload pieces i to i + gap makes 9 with the pieces of the header. One
+// Whether some segment touches over 8 pieces. The run of payload pieces i to i + (8 - head) makes 9 with those of the header. One
 // segment touches them all exactly if the segment that holds the first byte of the run's last piece begins before its first
 // piece ends. `start` and `end` are the payload's bytes before that last piece and up to the end of that first one.
 pub fn crowded(lengths: &[u64], header: u64, mss: u64, tlen: u64) -> bool
@@ -71,17 +70,16 @@ pub fn crowded(lengths: &[u64], header: u64, mss: u64, tlen: u64) -> bool
         return false;
     }
     let head = header_pieces(lengths, header);
-    let gap = MOST_TOUCHED - head;
     let step = spacing(mss, tlen);
     let mut end = sum(lengths, head + 1) - header;
     let mut start = sum(lengths, MOST_TOUCHED) - header;
-    // Kept: each turn reads both ends of one run; a zip of lengths[MOST_TOUCHED..] with lengths[head + 1..] hides that they are a run's.
-    for i in head..lengths.len() - gap {
+    // Of each run its last piece, and the first piece of the run after it.
+    for (&last, &next) in lengths[MOST_TOUCHED..].iter().zip(&lengths[head + 1..]) {
         if segment_start(start, step) < end {
             return true;
         }
-        start += lengths[i + gap];
-        end += lengths[i + 1];
+        start += last;
+        end += next;
     }
     false
 }

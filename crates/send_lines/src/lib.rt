@@ -3,18 +3,17 @@
 #![tactic(auto)]
 
 use command::Command;
-use parts::{first, first_mut};
+use parts::{first, first_mut, store};
 use request::{IpKind, L4Kind, Request};
 use ring::Queue;
 use script::{
-    GIVEN, Numbers, RING, Row, SLOTS, asked_row, fresh_row, poke, poke_from, queue_of, queue_row,
-    row_of,
+    GIVEN, Numbers, RING, Row, SLOTS, asked_row, fresh_row, poke_from, queue_of, queue_row, row_of,
 };
 use sum::sum_of;
 use transmit::TxQueue;
 
 // The transmit queue, its ring, its tokens and its slot counts, and how much of each is lent.
-// Kept: Rx and Tx differ in each call, so a trait would have a method for each. So SendSide (send, shutdown, completion) and ReceiveSide (post, message).
+// Kept: Rx and Tx have only the tail lines and the sums alike; a trait would have a method for each other call. So SendSide and ReceiveSide.
 #[derive(Drop)]
 pub struct Tx {
     queue: TxQueue,
@@ -140,8 +139,8 @@ impl Tx {
         let i = numbers[0] as usize;
         match command {
             Command::TxSet => self.hand_in(numbers),
-            Command::TxPoke => poke(&mut self.ring, i, numbers[1]),
-            Command::TxToken => poke(&mut self.tokens, i, numbers[1]),
+            Command::TxPoke => store(&mut self.ring, i, numbers[1]),
+            Command::TxToken => store(&mut self.tokens, i, numbers[1]),
             Command::TxCount => poke_from(&mut self.counts, i, numbers[1]),
             _ => {}
         }

@@ -16,6 +16,7 @@ const PLAIN: u64 = 100;
 const HEADER: u64 = 54;
 
 // What a run is asked with: the bytes of the first piece and of those behind it.
+// Kept: MSS 0 is a plain send, as the line that asks for the run has it; an Option would be made of the number and turned back into it.
 #[derive(Clone, Copy)]
 pub struct Asked {
     first: u64,

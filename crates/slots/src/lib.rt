@@ -4,6 +4,7 @@
 ghost use Rattle.slots.specs.Steps.{SlotIs, Step};
 
 // The slot at distance k from head, which is less than a lap.
+// Kept: 2 * slot and the place behind it are written out in each crate: 01 has a ring lent as 64-bit numbers, and a call for either is no shorter.
 pub fn slot(head: usize, size: usize, k: usize) -> usize
     requires { Step head size k }
     ensures { SlotIs head size k result }

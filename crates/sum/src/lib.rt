@@ -7,10 +7,11 @@ ghost use Rattle.sum.specs.Sums.{mixed, sum_of};
 fn mix(h: u64, x: u64) -> u64
     ensures { result ≡ mixed h x }
 {
-    (h << 7 | h >> 57) ^ x
+    h.rotate_left(7) ^ x
 }
 
 // A number of a list, of whatever width.
+// Kept: a trait beside measure's Told: that one is of the rules' answers too, so one trait for both would have this crate stand on rules.
 pub trait Summand: Copy {
     ghost value: { Self → ℕ };
 

@@ -3,10 +3,10 @@
 #![tactic(auto)]
 
 use command::Command;
-use parts::first_mut;
+use parts::{first_mut, store};
 use receive::Packet;
 use receive_lines::Rx;
-use script::{Numbers, OUT, Row, poke, queue_row};
+use script::{Numbers, OUT, Row, queue_row};
 use sum::sum_of;
 use writeback::WriteBack;
 
@@ -70,7 +70,7 @@ pub fn line(rx: &mut Rx, command: Command, numbers: &Numbers) -> Option<Row> {
         Command::Take => Some(take(rx)),
         Command::Burst => Some(burst(rx, numbers[0] as usize, numbers[1] as usize)),
         Command::Out => {
-            poke(&mut rx.out, numbers[0] as usize, numbers[1]);
+            store(&mut rx.out, numbers[0] as usize, numbers[1]);
             None
         }
         _ => rx.line(command, numbers),

@@ -15,7 +15,7 @@ pub struct TxQueue {
     pub frame: usize,
 }
 
-// Kept: 01 has zeros in all other result fields beside a refusal, so Fresh, Sent and Reclaimed have theirs beside the answer.
+// Kept: zeros beside a refusal here, in Sent and in Reclaimed (`fresh_of`, `send_refused`, `reclaim_refused`).
 #[derive(Clone, Copy, Debug, PartialEq, Eq)]
 pub struct Fresh {
     pub answer: Answer,

@@ -15,6 +15,7 @@ const TAIL_REGISTER: u16 = 0;
 
 impl TxQueue {
     // Answers 1 and an all-zero record, if a number breaks its line, or 0.
+    // Kept: receive has its twin of this too; each has its own line of the record, and an all-zero record of its own.
     #[tactic(auto, unfolding(crate::specs::Queue::fresh_of))]
     pub fn fresh(queue: usize, size: usize, frame: usize) -> Fresh
         ensures { result ≡ fresh_of queue size frame }

@@ -1,8 +1,10 @@
 // Lines and words of a script, and the numbers behind a command.
 #![tactic(auto)]
 
-ghost use Rattle.std.specs.Prelude.{◌≡◌, ◌==◌, position, set};
+ghost use Rattle.std.specs.Prelude.{◌≡◌, ◌==◌, position};
 ghost use Rattle.words.specs.Parts.{end_of, is_silent, words_of, ReadWords, ReadNumbers};
+
+use parts::store;
 
 // So many words that are not all numbers, or more than there is room for.
 #[derive(Clone, Copy, Debug, PartialEq, Eq)]
@@ -53,19 +55,11 @@ pub fn is_silent(line: &[u8]) -> bool
     line.is_empty() || line[0] == COMMENT
 }
 
-// One number, where there is room for it.
-fn store(out: &mut [u64], at: usize, value: u64)
-    ensures { out.new ≡ set out.old at value }
-{
-    if at < out.len() {
-        out[at] = value;
-    }
-}
-
 // The numbers of all words of a text.
 fn numbers_of(text: &[u8], out: &mut [u64]) -> Result<usize, Unread>
     ensures { ReadWords (words_of text.now) out.old result out.new }
 {
+    // Kept: count is an answer, of the words past the room too; enumerate would give a second number of them.
     let mut count = 0;
     let mut ok = true;
     for word in text.split(|byte| *byte == SPACE) {

@@ -10,6 +10,7 @@ use type_match::entry_of;
 use verdict::{Marks, Verdict, l3_verdict, l4_verdict};
 
 // The fields of a write-back. A tag or a hash that is not there reads as 0; the two error bits of checksums are handed up as verdicts.
+// Kept: l2tag1p beside tag, fltstat beside hash, and fields of two bits as numbers: each is read as the device wrote it (`write_back_of`).
 #[derive(Clone, Copy, Debug, PartialEq, Eq)]
 pub struct WriteBack {
     pub tag: u16,
@@ -74,6 +75,7 @@ const SIXTEEN_BITS: u64 = 1 << 16;
 
 const THIRTY_TWO_BITS: u64 = 1 << 32;
 
+// Kept: two words, here and in hash_of and read, as the ring holds them; a struct of them would be made by each caller and taken apart here.
 fn tag_of(word0: u64, word1: u64) -> u16
     ensures { result ≡ tag_of (record { word0 = word0; word1 = word1 }) }
 {

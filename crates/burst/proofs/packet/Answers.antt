@@ -1,8 +1,6 @@
 -- `packet` meets its contract. The loop's invariant: k slots are passed, none the last of its packet (`Walking`); each way out is one law of it.
 -- Assumes nothing.
-use mathlib.Core.Path.{◌≡◌, sym, ◌∙◌}
-use mathlib.Core.List.{[]}
-use native.Mathlib.Omega.{arith}
+use Rattle.std.proofs.Common.{◌≡◌, sym, ◌∙◌, [], arith}
 use Rattle.slots.proofs.Steps.{on_is}
 use Rattle.burst.proofs.Walk.{begins, end_found, clear_found, wrong_found, whole_found, goes_on}
 use Rattle.burst.proofs.packet.Goals as goal

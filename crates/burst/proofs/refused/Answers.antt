@@ -1,6 +1,6 @@
 -- `refused` meets its contract.
 -- Assumes nothing.
-use mathlib.Core.Path.{refl}
+use Rattle.std.proofs.Common.{refl}
 use Rattle.burst.specs.Polls.{found_by}
 use Rattle.burst.proofs.refused.Goals as goal
 

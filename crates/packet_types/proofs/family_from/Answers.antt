@@ -1,8 +1,6 @@
 -- `family_from` meets its contract: each arm of the match is a line of the definition.
 -- Assumes nothing.
-use mathlib.Core.Path.{sym}
-use native.Mathlib.Omega.{arith}
-use mathlib.Core.List.{[], ◌∷◌}
+use Rattle.std.proofs.Common.{sym, arith, [], ◌∷◌}
 use Rattle.rules.specs.Rules.{◌is◌}
 use Rattle.rules.proofs.Matches.{no_line}
 use Rattle.family.specs.declared.Family.TheVariants.{Unknown, Mac, Arp, Ipv4, Ipv6}

@@ -1,6 +1,6 @@
 -- `refused` meets its contract: no slots are zeros throughout.
 -- Assumes nothing.
-use mathlib.Core.Path.{refl}
+use Rattle.std.proofs.Common.{refl}
 use Rattle.scan.specs.Told.{sum, padded, last_words, seen_of, seen_by}
 use Rattle.scan.proofs.refused.Goals as goal
 

@@ -1,6 +1,6 @@
 -- `slot_ok` meets its contract: below the sixth slot, and in it.
 -- Assumes nothing.
-use borrow.Author.Tests.{lt-ltb, le-ltb}
+use Rattle.std.proofs.Common.{lt-ltb, le-ltb}
 use Rattle.scan.specs.Scan.{allowed}
 use Rattle.scan.proofs.slot_ok.Goals as goal
 

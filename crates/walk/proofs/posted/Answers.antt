@@ -1,7 +1,6 @@
 -- `posted` meets its contract. The loop's invariant: k slots are seen, none the last of its packet (`Walked`); each way out is one law of it.
 -- Assumes nothing.
-use mathlib.Core.Path.{sym, ◌∙◌}
-use native.Mathlib.Omega.{arith}
+use Rattle.std.proofs.Common.{sym, ◌∙◌, arith}
 use Rattle.scan.specs.Told.{padded}
 use Rattle.scan.proofs.Walk.{first, none_placed, at_end, at_clear, at_wrong, next, next_placed, told}
 use Rattle.walk.proofs.posted.Goals as goal

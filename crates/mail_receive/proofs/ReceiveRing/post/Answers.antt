@@ -1,6 +1,6 @@
 -- `ReceiveRing::post` meets its contract: a refusal leaves everything, and an acceptance gives what `put` asks.
 -- Assumes nothing.
-use mathlib.Core.Path.{sym, ◌∙◌}
+use Rattle.std.proofs.Common.{sym, ◌∙◌}
 use Rattle.mail_receive.proofs.Laws.{post_room, post_short}
 use Rattle.mail_receive.proofs.ReceiveRing.post.Goals as goal
 

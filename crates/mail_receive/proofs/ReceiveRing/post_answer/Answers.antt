@@ -1,6 +1,6 @@
 -- `ReceiveRing::post_answer` meets its contract: each way through the code is one check of the list.
 -- Assumes nothing.
-use mathlib.Core.Path.{sym, ◌∙◌}
+use Rattle.std.proofs.Common.{sym, ◌∙◌}
 use Rattle.mail_ring.proofs.Record.{lent}
 use Rattle.mail_receive.specs.Receiving.{post_answer}
 use Rattle.mail_receive.proofs.ReceiveRing.post_answer.Goals as goal

@@ -1,7 +1,6 @@
 -- `Ring::lent_ok` meets its contract: 32 times the size fits once the record is accepted.
 -- Assumes nothing.
-use mathlib.Core.Path.{sym, ◌∙◌}
-use native.Mathlib.Omega.{arith}
+use Rattle.std.proofs.Common.{sym, ◌∙◌, arith}
 use Rattle.mail_ring.specs.Ring.{lent_ok}
 use Rattle.mail_ring.proofs.Record.{placed}
 use Rattle.mail_ring.proofs.Ring.lent_ok.Goals as goal

@@ -1,7 +1,6 @@
 -- `Ring::look` meets its contract: each way through the code is one case of what is seen.
 -- Assumes nothing.
-use mathlib.Core.Path.{sym, ◌∙◌}
-use native.Mathlib.Omega.{arith}
+use Rattle.std.proofs.Common.{sym, ◌∙◌, arith}
 use Rattle.mail_ring.proofs.Record.{lent}
 use Rattle.mail_ring.proofs.Looks.{not_lent, none_posted, not_done, is_done}
 use Rattle.mail_ring.proofs.Ring.look.Goals as goal

@@ -1,6 +1,6 @@
 -- `Ring::ok` meets its contract: its test is the definition's.
 -- Assumes nothing.
-use mathlib.Core.Path.{refl}
+use Rattle.std.proofs.Common.{refl}
 use Rattle.mail_ring.specs.Ring.{ring_ok}
 use Rattle.mail_ring.proofs.Ring.ok.Goals as goal
 

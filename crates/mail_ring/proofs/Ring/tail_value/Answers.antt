@@ -1,6 +1,6 @@
 -- `Ring::tail_value` meets its contract: the record's test decides.
 -- Assumes nothing.
-use mathlib.Core.Path.{sym, ◌∙◌}
+use Rattle.std.proofs.Common.{sym, ◌∙◌}
 use Rattle.ring.specs.Queue.{asked_of}
 use Rattle.mail_ring.proofs.Record.{placed, tail_step}
 use Rattle.mail_ring.proofs.Ring.tail_value.Goals as goal

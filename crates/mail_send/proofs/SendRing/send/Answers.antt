@@ -1,6 +1,6 @@
 -- `SendRing::send` meets its contract: a refusal leaves everything, and an acceptance gives what `put` asks.
 -- Assumes nothing.
-use mathlib.Core.Path.{sym, ◌∙◌}
+use Rattle.std.proofs.Common.{sym, ◌∙◌}
 use Rattle.mail_send.proofs.Laws.{send_room, send_short}
 use Rattle.mail_send.proofs.SendRing.send.Goals as goal
 

@@ -1,6 +1,6 @@
 -- `SendRing::shutdown` meets its contract: a refusal leaves everything, and an acceptance gives what `put` asks.
 -- Assumes nothing.
-use mathlib.Core.Path.{sym, ◌∙◌}
+use Rattle.std.proofs.Common.{sym, ◌∙◌}
 use Rattle.mail_send.proofs.Laws.{shutdown_room}
 use Rattle.mail_send.proofs.SendRing.shutdown.Goals as goal
 

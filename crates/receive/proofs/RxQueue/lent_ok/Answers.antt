@@ -1,8 +1,7 @@
 -- `RxQueue::lent_ok` meets its contract: twice the size fits once the record is accepted.
 -- Assumes nothing.
-use native.Mathlib.Omega.{arith}
+use Rattle.std.proofs.Common.{arith, sym, ◌∙◌}
 use Rattle.receive.proofs.Laws.{kept}
-use mathlib.Core.Path.{sym, ◌∙◌}
 use Rattle.receive.specs.Queue.{lent_ok}
 use Rattle.receive.proofs.RxQueue.lent_ok.Goals as goal
 

@@ -1,9 +1,8 @@
 -- `RxQueue::post_answer` meets its contract: each way through the code is one check of the list.
 -- Assumes nothing.
 use Rattle.receive.specs.Post.{post_answer}
-use native.Mathlib.Omega.{arith}
+use Rattle.std.proofs.Common.{arith, sym, ◌∙◌}
 use Rattle.receive.proofs.Laws.{lent, lent_buffer}
-use mathlib.Core.Path.{sym, ◌∙◌}
 use Rattle.receive.proofs.RxQueue.post_answer.Goals as goal
 
 pub address_wrong-requires : goal.address_wrong-requires

@@ -1,6 +1,6 @@
 -- `RxQueue::seen` meets its contract: 1 where the record or a slice is wrong, else what the scan gives.
 -- Assumes nothing.
-use mathlib.Core.Path.{sym, ◌∙◌}
+use Rattle.std.proofs.Common.{sym, ◌∙◌}
 use Rattle.receive.specs.Take.{look}
 use Rattle.receive.proofs.Laws.{lent}
 use Rattle.receive.proofs.RxQueue.seen.Goals as goal

@@ -1,6 +1,6 @@
 -- `RxQueue::tail_register` meets its contract: the record's test is the judgement that the shared part asks for.
 -- Assumes nothing.
-use mathlib.Core.Path.{sym, ◌∙◌}
+use Rattle.std.proofs.Common.{sym, ◌∙◌}
 use Rattle.receive.proofs.Laws.{kept}
 use Rattle.receive.proofs.RxQueue.tail_register.Goals as goal
 

@@ -1,6 +1,6 @@
 -- `RxQueue::take` meets its contract: what is seen, as take gives it.
 -- Assumes nothing.
-use mathlib.Core.Path.{◌∙◌}
+use Rattle.std.proofs.Common.{◌∙◌}
 use Rattle.receive.specs.Take.{take_of}
 use Rattle.receive.proofs.Takes.{as_taken}
 use Rattle.receive.proofs.RxQueue.take.Goals as goal

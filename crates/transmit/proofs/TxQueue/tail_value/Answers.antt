@@ -1,6 +1,6 @@
 -- `TxQueue::tail_value` meets its contract: the record's test is the judgement.
 -- Assumes nothing.
-use mathlib.Core.Path.{sym, ◌∙◌}
+use Rattle.std.proofs.Common.{sym, ◌∙◌}
 use Rattle.transmit.proofs.Laws.{kept}
 use Rattle.transmit.proofs.TxQueue.tail_value.Goals as goal
 
