@@ -63,7 +63,7 @@ impl TxQueue {
     }
 
     // The tail value, or 1 where the record breaks a line.
-    // Kept: receive has its twin of this and of the register; what they share is one function in ring, and a trait would have both again.
+    // Kept: receive has its twin of this and of the register; what they share is in ring, a function for each, and a trait would have both again.
     pub fn tail_value(self) -> Result<usize, Refusal>
         ensures { result ≡ tail_value_of self }
     {

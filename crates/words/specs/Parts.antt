@@ -50,6 +50,5 @@ pub record ReadWords (ws : List (List ℕ)) (out : List ℕ) (r : Result ℕ Unr
   pub numbers_are : left ≡ sets out 0 (map value_in ws)
 
 -- the numbers behind a command: the answer, and what is in the places afterwards
-pub record ReadNumbers (line : List ℕ) (end : ℕ) (out : List ℕ) (r : Result ℕ Unread) (left : List ℕ) : Type 0 where
-  pub answer_is : r ≡ read_of (words_behind line end) (length out)
-  pub numbers_are : left ≡ sets out 0 (map value_in (words_behind line end))
+abbrev pub ReadNumbers : List ℕ → ℕ → List ℕ → Result ℕ Unread → List ℕ → Type 0
+ReadNumbers line end out r left = ReadWords (words_behind line end) out r left
