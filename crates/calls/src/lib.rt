@@ -3,7 +3,7 @@
 #![tactic(auto)]
 
 mod interrupts;
-mod mail;
+pub mod mail;
 pub mod printing;
 mod types;
 
@@ -13,7 +13,7 @@ use receive_lines::Rx;
 use script::{Numbers, Row};
 use send_lines::Tx;
 
-#[derive(Drop)]
+#[derive(Clone, Copy)]
 pub struct Bench {
     rx: Rx,
     tx: Tx,

@@ -4,15 +4,15 @@ use mail_receive_lines::ReceiveSide;
 use mail_send_lines::SendSide;
 use script::{MAIL_BUFFER, Numbers, Row, poke_from};
 
-#[derive(Drop)]
-pub(crate) struct Mail {
+#[derive(Clone, Copy)]
+pub struct Mail {
     receive: ReceiveSide,
     send: SendSide,
     buffer: [u8; MAIL_BUFFER],
 }
 
 impl Mail {
-    pub(crate) fn new() -> Mail {
+    pub fn new() -> Mail {
         Mail {
             receive: ReceiveSide::new(),
             send: SendSide::new(),
@@ -21,7 +21,7 @@ impl Mail {
     }
 
     // What a line says to the mailbox: at most one of its rings has an answer.
-    pub(crate) fn line(&mut self, command: Command, numbers: &Numbers) -> Option<Row> {
+    pub fn line(&mut self, command: Command, numbers: &Numbers) -> Option<Row> {
         if matches!(command, Command::Mbuf) {
             poke_from(&mut self.buffer, numbers[0] as usize, numbers[1]);
         }

@@ -6,7 +6,7 @@ use script::{Row, row_of};
 use words::word_end;
 
 // What is printed is held back up to here.
-const PRINTED: usize = 65536;
+pub const PRINTED: usize = 65536;
 
 // The longest answer fits this room.
 const ROOM: usize = 1024;

@@ -1,5 +1,5 @@
 -- A loop over a list, from front to end: a fold's next step. Assumes nothing.
-use Rattle.std.proofs.Common.{ℕ, ◌+◌, ◌≤◌, ◌<◌, ◌≡◌, refl, ap, Bool, true, false, ◌&&◌, List, length, get_or, drop, ltb, arith, add-one, drop_of_length-le, drop-cons, lt-ltb, ltb-true, ltb-false}
+use Rattle.std.proofs.Common.{ℕ, ◌+◌, ◌<◌, ◌≡◌, refl, Bool, true, false, ◌&&◌, List, length, get_or, drop, arith, add-one, drop-cons}
 use mathlib.Core.List.{foldl}
 
 module _ {A B : Type 0} (f : B → A → B) (b : B) (l : List A) (i : ℕ) where

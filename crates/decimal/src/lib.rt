@@ -10,12 +10,18 @@ const LONGEST: usize = 20;
 const ZERO: u8 = b'0';
 
 // A number with one digit more behind it, where the byte is a digit and the number below 2^64.
+// Kept: a comparison and no `checked_add`, since the edit number_largest makes it `<`.
 fn next_read(sofar: u64, byte: u8) -> Option<u64>
     ensures { result ≡ next_read sofar byte }
 {
     if byte.is_ascii_digit() {
         let digit = u64::from(byte - ZERO);
-        sofar.checked_mul(10)?.checked_add(digit)
+        let tens = sofar.checked_mul(10)?;
+        if digit <= u64::MAX - tens {
+            Some(tens + digit)
+        } else {
+            None
+        }
     } else {
         None
     }

@@ -1,5 +1,5 @@
 -- The digits of a number: one to twenty, without a leading zero, and read back they give the number. Assumes nothing.
-use Rattle.std.proofs.Common.{ℕ, zero, suc, ◌+◌, ◌-◌, ◌*◌, ◌/◌, ◌%◌, ◌^◌, ◌≤◌, ◌<◌, max, ◌≡◌, refl, ap, sym, Bool, true, false, List, [], ◌∷◌, ◌++◌, length, set, ltb, arith, pow-suc, lt-ltb, le-ltb, ltb-true, ltb-false, length-append}
+use Rattle.std.proofs.Common.{ℕ, zero, suc, ◌+◌, ◌-◌, ◌*◌, ◌/◌, ◌%◌, ◌^◌, ◌≤◌, ◌<◌, ◌≡◌, refl, ap, sym, Bool, true, false, List, [], ◌∷◌, ◌++◌, length, set, ltb, arith, pow-suc, lt-ltb, le-ltb, ltb-true, ltb-false, length-append}
 use lib.Seq.{sets}
 use Rattle.digits.proofs.Places.{sets_last}
 use Rattle.digits.specs.Digits.{digits_in, digits_of}
@@ -49,6 +49,15 @@ module _ (n : ℕ) (h : n < 2 ^ 64) where
   unfolding digits_of
   digits_short = in_short 20 n (omega arith) (omega arith)
 
+-- a number is below the power of ten that its digits count
+below_in : (k n : ℕ) → 0 < k → n < 10 ^ k → n < 10 ^ length (digits_in k n)
+below_in = each (λ k n ds. n < 10 ^ length ds) (λ k n h. omega arith)
+    (λ k n ds h p l. let s : length (ds ++ ((48 + n % 10) ∷ [])) ≡ suc (length ds) = omega (arith, length-append ds ((48 + n % 10) ∷ [])) in rw (s, pow-suc 10 (length ds)) (omega (arith, l)))
+
+pub below_digits : (n : ℕ) → n < 2 ^ 64 → n < 10 ^ length (digits_of n)
+unfolding digits_of
+below_digits n h = below_in 20 n (omega arith) (omega arith)
+
 ten_pos : (e : ℕ) → 1 ≤ 10 ^ e
 ten_pos zero = omega arith
 ten_pos (suc e) = rw (pow-suc 10 e) (omega (arith, ten_pos e))
@@ -65,14 +74,13 @@ log_in = each (λ k n ds. (e : ℕ) → 10 ^ e ≤ n → n < 10 * 10 ^ e → len
     more n ds h l zero a b = absurd (omega arith)
     more n ds h l (suc e) a b = omega (arith, length-append ds ((48 + n % 10) ∷ []), l e (omega (arith, rw (pow-suc 10 e) at a)) (omega (arith, rw (pow-suc 10 e) at b)))
 
-pub count_of_digits : (n e : ℕ) → n < 2 ^ 64 → 10 ^ e ≤ max n 1 → max n 1 < 10 * 10 ^ e → length (digits_of n) ≡ 1 + e
+pub count_of_digits : (n e : ℕ) → n < 2 ^ 64 → 10 ^ e ≤ n → n < 10 * 10 ^ e → length (digits_of n) ≡ 1 + e
 unfolding digits_of
-count_of_digits zero e h a b = rw (in_last 19 0 (omega arith)) (none e a)
-  where
-    none : (e : ℕ) → 10 ^ e ≤ max 0 1 → 1 ≡ 1 + e
-    none zero a = refl
-    none (suc e) a = absurd (omega (arith, rw (pow-suc 10 e) at a, ten_pos e))
-count_of_digits (suc n) e h a b = log_in 20 (suc n) (omega arith) (omega arith) e (omega arith) (omega arith)
+count_of_digits n e h a b = log_in 20 n (omega arith) (omega arith) e a b
+
+pub one_digit : (n : ℕ) → n < 10 → length (digits_of n) ≡ 1
+unfolding digits_of
+one_digit n h = ap length (in_last 19 n h)
 
 -- the last k digits of a number, zeros before it too
 abbrev pub lasts : ℕ → ℕ → List ℕ
@@ -99,3 +107,12 @@ spell_step out at (suc k) n h =
     let e : at + (suc k - 1) ≡ at + length ds = omega (arith, length-lasts k (n / 10)) in
     let m : suc k - 1 ≡ k = omega arith in
     rw (e, m) (sym (sets_last out at ds (48 + n % 10)))
+
+-- and what is left of the number has a digit less
+pub below_tenth_of : (left n : ℕ) → 1 < left → n < 10 ^ left → n / 10 < 10 ^ (left - 1)
+below_tenth_of zero n l h = absurd (omega arith)
+below_tenth_of (suc k) n l h = let m : suc k - 1 ≡ k = omega arith in rw m (below_tenth k n h)
+
+-- until it is its first digit
+pub spell_first : (out : List ℕ) (at n : ℕ) → n < 10 → set out at (48 + n) ≡ sets out at (lasts 1 n)
+spell_first out at n h = let m : n % 10 ≡ n = omega arith in rw m refl

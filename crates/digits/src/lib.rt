@@ -8,11 +8,11 @@ ghost use Rattle.digits.specs.Put.{fits_at, Put};
 
 const ZERO: u8 = b'0';
 
-// How many digits a number is written with.
+// How many digits a number is written with. Most numbers of an answer have one, which needs no logarithm.
 pub fn digit_count(n: u64) -> usize
     ensures { result ≡ length (digits_of n) }
 {
-    1 + n.max(1).ilog10() as usize
+    1 + if n < 10 { 0 } else { n.ilog10() as usize }
 }
 
 // Whether so many bytes fit a text so long from this place on.
@@ -29,16 +29,17 @@ fn digit(d: u64) -> u8
     ZERO + d as u8
 }
 
-// The digits of a number, the last one first.
+// The digits of a number, the last one first; the first one is what is left, and needs no division.
 fn spell(out: &mut [u8], at: usize, count: usize, n: u64)
     requires { Spelled out.old at count n }
     ensures { out.new ≡ sets out.old at (digits_of n) }
 {
     let mut rest = n;
-    for left in (0..count).rev() {
+    for left in (1..count).rev() {
         out[at + left] = digit(rest % 10);
         rest /= 10;
     }
+    out[at] = digit(rest);
 }
 
 // Puts a number's digits at a place, and answers the place after them; where they do not fit,

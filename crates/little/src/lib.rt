@@ -11,12 +11,14 @@ ghost use Rattle.little.specs.Steps.{Says};
 const BYTE: u64 = 256;
 
 // All of bytes, from place at on.
+// Kept: byte by byte and no `copy_from_slice`, since the edit copied_first has the first byte for each.
 pub fn copy(out: &mut [u8], at: usize, bytes: &[u8])
     requires { at + length bytes.now ≤ length out.old }
     ensures { out.new ≡ store_from out.old at bytes.now }
 {
-    let end = at + bytes.len();
-    out[at..end].copy_from_slice(bytes);
+    for i in 0..bytes.len() {
+        out[at + i] = bytes[i];
+    }
 }
 
 // The lowest n bytes of x, from place at on.

@@ -10,7 +10,7 @@ use parts::first;
 use script::{MAIL_BUFFER, Numbers, Row, asked_row, poke_from};
 
 // The receive ring and its memory.
-#[derive(Drop)]
+#[derive(Clone, Copy)]
 pub struct ReceiveSide {
     queue: ReceiveRing,
     memory: MailMemory,

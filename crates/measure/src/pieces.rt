@@ -12,13 +12,8 @@ pub fn lay_out(addresses: &mut [u64], lengths: &mut [u64], behind: u64) {
         .checked_div((n as u64).saturating_sub(1))
         .unwrap_or(0);
     let mut left = behind;
-    for (i, (place, length)) in addresses
-        .iter_mut()
-        .zip(lengths.iter_mut())
-        .enumerate()
-        .skip(1)
-    {
-        *place = address(i as u64);
+    for (i, length) in lengths.iter_mut().enumerate().skip(1) {
+        store(addresses, i, address(i as u64));
         *length = if i + 1 < n { each } else { left };
         left = left.saturating_sub(each);
     }

@@ -16,7 +16,7 @@ impl RxQueue {
         if self.lent_ok(ring.len(), list.len()) {
             walk::posted(self.shared, self.buffer, ring, list)
         } else {
-            scan::refused(self.shared, Refusal::WrongRecord)
+            scan::refused(self.shared, Err(Refusal::WrongRecord))
         }
     }
 

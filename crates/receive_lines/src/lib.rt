@@ -9,7 +9,7 @@ use ring::Queue;
 use script::{Memory, Numbers, OUT, RING, Row, SLOTS, asked_row, fresh_row, queue_of, queue_row};
 
 // The receive queue, its memory, and the burst's list.
-#[derive(Drop)]
+#[derive(Clone, Copy)]
 pub struct Rx {
     pub queue: RxQueue,
     pub memory: Memory<u64, u64, RING, SLOTS>,

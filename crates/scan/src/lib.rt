@@ -1,12 +1,12 @@
 // What a take sees of the posted slots: what the device's rules allow in each, and what is handed up of a packet.
 #![tactic(auto)]
 
-ghost use Rattle.std.specs.Prelude.{◌≡◌};
-ghost use Rattle.scan.specs.Scan.{Look, allowed};
-ghost use Rattle.scan.specs.Told.{seen_by};
+ghost use Rattle.std.specs.Prelude.{◌≡◌, []};
+ghost use Rattle.scan.specs.Scan.{allowed};
+ghost use Rattle.scan.specs.Told.{seen_of};
 
 use ring::Queue;
-use rules::{Answer, Refusal};
+use rules::Answer;
 
 // A packet is 1 to 5 slots with data, then at most one of length 0, which is its last.
 const DATA_SLOTS: usize = 5;
@@ -42,12 +42,12 @@ pub fn slot_ok(buffer: usize, k: usize, word1: u64) -> bool
     }
 }
 
-// A refusal: the record as it came, and zeros.
-pub fn refused(queue: Queue, refusal: Refusal) -> Seen
-    ensures { result ≡ seen_by (Look.refuse refusal) queue }
+// An answer with no packet: the record as it came, and zeros.
+pub fn refused(queue: Queue, answer: Answer) -> Seen
+    ensures { result ≡ seen_of answer queue [] }
 {
     Seen {
-        answer: Err(refusal),
+        answer,
         queue,
         count: 0,
         total: 0,

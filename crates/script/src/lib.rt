@@ -2,7 +2,8 @@
 // handed in and printed, and the numbers of an answer. A part of the program `probe`: what it prints is compared.
 #![tactic(auto)]
 
-use arrayvec::ArrayVec;
+ghost use Rattle.std.specs.Prelude.{◌≡◌, take};
+
 use parts::{first, first_mut, store};
 use ring::Queue;
 use rules::{Answer, Refusal, number_of};
@@ -36,38 +37,42 @@ pub const LONGEST: usize = 36;
 // Kept: a send has up to 16,397 numbers and there is no heap, so one array serves all lines, and a command takes its own by place.
 pub type Numbers = [u64; NUMBERS];
 
-// An answer's numbers.
-#[derive(Drop)]
+// An answer's numbers, so many of the values.
+// Kept: an array and a count, since a row is Copy, which no ArrayVec is.
+#[derive(Clone, Copy)]
 pub struct Row {
-    numbers: ArrayVec<u64, LONGEST>,
+    pub values: [u64; LONGEST],
+    pub count: usize,
 }
 
 impl Row {
     // With more numbers behind, as far as there is room.
     pub fn and(mut self, more: &[u64]) -> Row {
         for number in more {
-            if !self.numbers.is_full() {
-                self.numbers.push(*number);
+            if self.count < LONGEST {
+                self.values[self.count] = *number;
+                self.count += 1;
             }
         }
         self
     }
 
     pub fn numbers(&self) -> &[u64] {
-        self.numbers.as_slice()
+        first(&self.values, self.count)
     }
 }
 
 pub fn row_of(numbers: &[u64]) -> Row {
     let row = Row {
-        numbers: ArrayVec::new(),
+        values: [0; LONGEST],
+        count: 0,
     };
     row.and(numbers)
 }
 
 // A queue's ring and its list, and how much of each is lent.
 // Kept: a line says how much is lent apart from what the memory holds, and what stands behind stays: no vector's length. So Tx, which has a third.
-#[derive(Drop)]
+#[derive(Clone, Copy)]
 pub struct Memory<R, L, const N: usize, const M: usize> {
     pub ring: [R; N],
     pub list: [L; M],
@@ -93,7 +98,10 @@ impl<R: Summand, L: Summand, const N: usize, const M: usize> Memory<R, L, N, M> 
     }
 
     // The memory that is lent: the ring and the list.
-    pub fn lent(&self) -> (&[R], &[L]) {
+    pub fn lent(&self) -> (&[R], &[L])
+        ensures of_ring { result.0.now ≡ take self.now.ring_lent self.now.ring }
+        ensures of_list { result.1.now ≡ take self.now.list_lent self.now.list }
+    {
         (
             first(&self.ring, self.ring_lent),
             first(&self.list, self.list_lent),
@@ -101,7 +109,10 @@ impl<R: Summand, L: Summand, const N: usize, const M: usize> Memory<R, L, N, M> 
     }
 
     // The same to be written.
-    pub fn lent_mut(&mut self) -> (&mut [R], &mut [L]) {
+    pub fn lent_mut(&mut self) -> (&mut [R], &mut [L])
+        ensures of_ring { result.0.now ≡ take self.old.ring_lent self.old.ring }
+        ensures of_list { result.1.now ≡ take self.old.list_lent self.old.list }
+    {
         let Memory {
             ring,
             list,

@@ -14,7 +14,7 @@ use transmit::TxQueue;
 
 // The transmit queue, its ring, its tokens and its slot counts, and how much of each is lent.
 // Kept: Rx and Tx have only the tail lines and the sums alike; a trait would have a method for each other call. So SendSide and ReceiveSide.
-#[derive(Drop)]
+#[derive(Clone, Copy)]
 pub struct Tx {
     queue: TxQueue,
     ring: [u64; RING],

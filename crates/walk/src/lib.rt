@@ -28,7 +28,7 @@ pub fn posted(queue: Queue, buffer: usize, ring: &[u64], list: &[u64]) -> Seen
         let first = 2 * at;
         let word1 = ring[first + 1];
         if !places::dd(word1) {
-            return refused(queue, Refusal::NotYet);
+            return refused(queue, Err(Refusal::NotYet));
         }
         if slot_ok(buffer, k, word1) {
             let length = places::length(word1);
@@ -48,8 +48,8 @@ pub fn posted(queue: Queue, buffer: usize, ring: &[u64], list: &[u64]) -> Seen
                 };
             }
         } else {
-            return refused(queue, Refusal::Contradiction);
+            return refused(queue, Err(Refusal::Contradiction));
         }
     }
-    refused(queue, Refusal::NotYet)
+    refused(queue, Err(Refusal::NotYet))
 }

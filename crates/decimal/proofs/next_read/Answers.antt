@@ -4,11 +4,15 @@ use Rattle.decimal.specs.Numbers.{next_read}
 use Rattle.decimal.proofs.Reading.{too_large, digit_added}
 use Rattle.decimal.proofs.next_read.Goals as goal
 
-pub returns-in_err-checked_mul : goal.returns-in_err-checked_mul
-returns-in_err-checked_mul c = c.from_residual.ensures ∙ sym (too_large c.args.sofar c.args.byte (omega (arith, c.in_err-checked_mul.ensures)))
+pub returns-in_err-tens : goal.returns-in_err-tens
+returns-in_err-tens c = c.from_residual.ensures ∙ sym (too_large c.args.sofar c.args.byte (omega (arith, c.in_err-tens.ensures)))
 
-pub returns-in_ok-checked_mul : goal.returns-in_ok-checked_mul
-returns-in_ok-checked_mul c = digit_added c.args.sofar c.args.byte (c.in_ok-checked_mul.field-0 + c.from-digit.result) c.checked_add.result (rw c.is_ascii_digit.ensures.value at c.if-is_ascii_digit.true) (omega (arith, c.in_ok-checked_mul.ensures, c.from-digit.ensures)) c.checked_add.ensures
+pub returns-then-digit-tens : goal.returns-then-digit-tens
+returns-then-digit-tens c =
+    digit_added c.args.sofar c.args.byte (c.in_ok-tens.tens + c.from-digit.result) (rw c.is_ascii_digit.ensures.value at c.if-is_ascii_digit.true) (omega (arith, c.in_ok-tens.ensures, c.from-digit.ensures)) (omega arith)
+
+pub returns-else-digit-tens : goal.returns-else-digit-tens
+returns-else-digit-tens c = sym (too_large c.args.sofar c.args.byte (omega (arith, c.in_ok-tens.ensures, c.from-digit.ensures)))
 
 pub returns-else-is_ascii_digit : goal.returns-else-is_ascii_digit
 unfolding next_read

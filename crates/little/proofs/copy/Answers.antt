@@ -1,11 +1,11 @@
--- `little::copy` meets its contract: a part written over is a row stored.
+-- `little::copy` meets its contract. The loop's invariant: with the bytes that are left stored, all are.
 -- Assumes nothing.
-use Rattle.std.proofs.Common.{◌≡◌, ◌+◌, ◌-◌, length, arith, drop-drop}
-use Rattle.slots.proofs.Pieces.{store_whole}
+use Rattle.std.proofs.Common.{arith, length-set}
+use Rattle.slots.proofs.Pieces.{store_one}
 use Rattle.little.proofs.copy.Goals as goal
 
-pub returns : goal.returns
-returns c =
+pub loop-i-preserved : goal.loop-i-preserved
+loop-i-preserved c =
     let a = c.args in
-    let count : a.at + length a.bytes.now - a.at ≡ length a.bytes.now = omega arith in
-    rw (store_whole a.out.now a.at a.bytes.now c.requires, c.copy_from_slice.ensures.after, count, drop-drop)
+    let l = c.loop-i in
+    (simp length-set l.invariant.0, store_one l.out a.at a.bytes.now l.i _ (omega arith) l.invariant.1)

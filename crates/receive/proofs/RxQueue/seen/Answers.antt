@@ -1,6 +1,7 @@
 -- `RxQueue::seen` meets its contract: 1 where the record or a slice is wrong, else what the scan gives.
 -- Assumes nothing.
 use Rattle.std.proofs.Common.{sym, ◌∙◌}
+use Rattle.scan.specs.Told.{seen_by}
 use Rattle.receive.specs.Take.{look}
 use Rattle.receive.proofs.Laws.{lent}
 use Rattle.receive.proofs.RxQueue.seen.Goals as goal
@@ -13,5 +14,5 @@ unfolding look
 returns-then-lent_ok c = rw (← c.lent_ok.ensures, c.if-lent_ok.true) c.posted.ensures
 
 pub returns-else-lent_ok : goal.returns-else-lent_ok
-unfolding look
+unfolding look seen_by
 returns-else-lent_ok c = rw (← c.lent_ok.ensures, c.if-lent_ok.false) c.refused.ensures
