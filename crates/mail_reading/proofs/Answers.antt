@@ -1,7 +1,8 @@
 -- What a reading goes by: the answer made of what was seen is that of the element at head.
 -- Assumes nothing.
-use Rattle.std.proofs.Common.{ℕ, ◌+◌, ◌*◌, ◌≤◌, ◌≡◌, ap, ◌∙◌, Bool, not, ◌&&◌, cond, List, [], ◌∷◌, ◌++◌, arith, ltb-false, ltb, eqb, length, is_ok}
-use Rattle.rules.specs.Rules.{Check, answer_of, done, Answer, answer_at}
+use Rattle.std.proofs.Common.{ℕ, ◌+◌, ◌*◌, ◌≤◌, ◌≡◌, ap, ◌∙◌, Bool, not, ◌&&◌, cond, List, [], ◌∷◌, ◌++◌, arith, ltb-false, ltb, eqb, length, is_ok, Result, Ok, Err}
+use Rattle.std.specs.Bool.{⊤}
+use Rattle.rules.specs.Rules.{Check, answer_of, done, Answer, answer_at, number, number_of}
 use Rattle.rules.proofs.Tests.{none}
 use Rattle.rules.proofs.Checks.{passed, asked_next, first_pass}
 use Rattle.element.specs.declared.Element.{Element}
@@ -10,15 +11,41 @@ use Rattle.mail_ring.specs.declared.Seen.{Seen}
 use Rattle.mail_ring.specs.Look.{head_element, head_posted, look_checks, look_of}
 use Rattle.mail_ring.proofs.Looks.{look_next, seen_lent}
 use Rattle.mail_request.specs.Request.{most_length}
-use Rattle.mail_reading.specs.Reading.{has_buffer, element_checks}
+use Rattle.mail_reading.specs.Reading.{has_buffer, element_checks, MadeAs, ReadAs}
+
+-- where a refusal is itself, a reading answers what the look does, or else what the checks do
+pub read_is : (looked a : Answer) (cs : List Check) → ReadAs (λ r n. n ≡ r) looked cs a → a ≡ cond (is_ok looked) (answer_of cs) looked
+unfolding ReadAs
+read_is (Ok u) a cs h = made (answer_of cs) a h
+  where
+    made : (b a : Answer) → MadeAs (λ r n. n ≡ r) b a → a ≡ b
+    made (Ok u) a h = h
+    made (Err r) (Ok u) h = absurd h
+    made (Err r) (Err n) h = ap Err h
+read_is (Err n) a cs h = h
+
+-- and where it is its number, the same by numbers: one that a look gave is handed on, whatever it is
+abbrev number_in : Result ⊤ ℕ → ℕ
+number_in (Ok u) = 0
+number_in (Err n) = n
+
+pub read_number : (looked a : Result ⊤ ℕ) (cs : List Check) → ReadAs (λ r n. n ≡ number r) looked cs a → number_in a ≡ cond (is_ok looked) (number_of (answer_of cs)) (number_in looked)
+unfolding ReadAs
+read_number (Ok u) a cs h = made (answer_of cs) a h
+  where
+    made : (b : Answer) (a : Result ⊤ ℕ) → MadeAs (λ r n. n ≡ number r) b a → number_in a ≡ number_of b
+    made (Ok u) a h = ap number_in h
+    made (Err r) (Ok u) h = absurd h
+    made (Err r) (Err n) h = h
+read_number (Err n) a cs h = ap number_in h
 
 module _ (wrong : Element → ℕ → Bool) (r : Ring) (ring list : List ℕ) (lent : ℕ) where
   abbrev read_checks : List Check
   read_checks = look_checks r ring list ++ element_checks (wrong (head_element r ring list) (head_posted r ring list)) (head_element r ring list) lent
 
-  pub read_answer : {s : Seen} {w : Bool} {a : Answer} → s ≡ look_of r ring list → w ≡ wrong s.element s.posted → a ≡ cond (is_ok s.answer) (answer_of (element_checks w s.element lent)) s.answer → a ≡ answer_of read_checks
+  pub read_answer : {s : Seen} {w : Bool} {a : Answer} → s ≡ look_of r ring list → w ≡ wrong s.element s.posted → ReadAs (λ r n. n ≡ r) s.answer (element_checks w s.element lent) a → a ≡ answer_of read_checks
   read_answer {s} {w} {a} e f g =
-      g ∙ ap (λ (b : Bool). cond (is_ok s.answer) (answer_of (element_checks b s.element lent)) s.answer) f
+      read_is s.answer a _ g ∙ ap (λ (b : Bool). cond (is_ok s.answer) (answer_of (element_checks b s.element lent)) s.answer) f
       ∙ ap (λ (t : Seen). cond (is_ok t.answer) (answer_of (element_checks (wrong t.element t.posted) t.element lent)) t.answer) e
       ∙ look_next r ring list (λ x p. element_checks (wrong x p) x lent)
 

@@ -1,7 +1,8 @@
 -- What is read of an element that the device is done with (02, "The mailbox"; 000, Tables 4-6, 4-8 and 4-12): when it is wrong, and its numbers.
 -- Assumes nothing.
-use Rattle.std.specs.Prelude.{ℕ, ◌+◌, ◌*◌, ◌/◌, ◌%◌, Bool, true, false, not, ◌||◌, cond, List, [], ◌∷◌, eqb}
-use Rattle.rules.specs.Rules.{any_of, Check, ◌when◌, done}
+use Rattle.std.specs.Prelude.{ℕ, ◌+◌, ◌*◌, ◌/◌, ◌%◌, Bool, true, false, not, ◌||◌, cond, List, [], ◌∷◌, eqb, ◌≡◌, Result, Ok, Err, ⊤, IsErrAnd}
+use Rattle.rules.specs.declared.Refusal.{Refusal}
+use Rattle.rules.specs.Rules.{any_of, Check, ◌when◌, Answer, answer_of}
 use Rattle.field.specs.Field.{is_set}
 use Rattle.element.specs.declared.Element.{Element}
 use Rattle.mail_flags.specs.Flags.{err_flag, buf_flag, not_echoed}
@@ -32,6 +33,15 @@ message_wrong e p = any_of (not (eqb e.opcode message_from_pf) ∷ not_echoed (h
 -- 5 the element is wrong, 11 its length is
 abbrev pub element_checks : Bool → Element → ℕ → List Check
 element_checks wrong e lent = 5 when wrong ∷ 11 when length_wrong (has_buffer e) e.length lent ∷ []
+
+-- what a look at the element refuses stands, whatever it is; else the checks answer, a refusal as it is made: itself, or its number
+abbrev pub MadeAs : {R : Type 0} → (Refusal → R → Type 0) → Answer → Result ⊤ R → Type 0
+MadeAs made (Ok u) a = a ≡ Ok u
+MadeAs made (Err r) a = IsErrAnd a (made r)
+
+unfoldable pub ReadAs : {R : Type 0} → (Refusal → R → Type 0) → Result ⊤ R → List Check → Result ⊤ R → Type 0
+ReadAs made (Ok u) cs a = MadeAs made (answer_of cs) a
+ReadAs made (Err n) cs a = a ≡ Err n
 
 -- ERR, the return value, the cookie, and where the message lies: its length of the buffer, or the 8 cookie bytes of the element
 unfoldable pub reading_of : ℕ → Element → Reading

@@ -1,16 +1,15 @@
 // What is read of an element that the device is done with: whether it is as it must be, its numbers, and the message, which stays where it lies.
 #![tactic(auto)]
 
-ghost use Rattle.std.specs.Prelude.{◌≡◌, cond, ◌≤◌, is_ok};
-ghost use Rattle.rules.specs.Rules.{answer_of};
-ghost use Rattle.mail_reading.specs.Reading.{completion_wrong, message_wrong, element_checks, reading_of, no_reading};
+ghost use Rattle.std.specs.Prelude.{◌≡◌, ◌≤◌};
+ghost use Rattle.mail_reading.specs.Reading.{completion_wrong, message_wrong, element_checks, ReadAs, reading_of, no_reading};
 ghost use Rattle.mail_reading.specs.Part.{Within, PartIs};
 ghost use Rattle.mail_ring.specs.Ring.{most_size};
 
 use element::{COOKIE, ELEMENT, Element};
 use mail_request::{QUEUE_SHUTDOWN, SEND_TO_PF};
 use mail_ring::OPCODE;
-use rules::{Answer, Refusal};
+use rules::Refusal;
 
 // The opcode of a received message.
 const MESSAGE_FROM_PF: u16 = 0x0802;
@@ -50,17 +49,23 @@ pub fn message_wrong(e: Element, posted: u32) -> bool
     (e.opcode != MESSAGE_FROM_PF) | mail_flags::not_echoed(buf, e.flags, flags)
 }
 
-// The answer of a reading: what a look at the element gave, then 5 and 11.
-pub fn answer(looked: Answer, wrong: bool, e: Element, lent: usize) -> Answer
-    ensures { result ≡ cond (is_ok looked) (answer_of (element_checks wrong e lent)) looked }
+// The answer of a reading: what a look at the element gave, then 5 and 11. A refusal is itself, or what one is made into, as a number.
+#[tactic(auto, unfolding(crate::specs::Reading::ReadAs))]
+pub fn answer<R: From<Refusal>>(
+    looked: Result<(), R>,
+    wrong: bool,
+    e: Element,
+    lent: usize,
+) -> Result<(), R>
+    ensures { ReadAs R.from_gives looked (element_checks wrong e lent) result }
 {
     looked?;
     if wrong {
-        return Err(Refusal::Contradiction);
+        return Err(R::from(Refusal::Contradiction));
     }
     let buf = mail_flags::buf(e.flags);
     if mail_request::length_wrong(buf, e.length as usize, lent) {
-        return Err(Refusal::WrongLength);
+        return Err(R::from(Refusal::WrongLength));
     }
     Ok(())
 }

@@ -2,6 +2,7 @@
 -- Assumes nothing.
 use Rattle.std.specs.Prelude.{ℕ, ◌≡◌, List, set}
 use Rattle.ring.specs.Queue.{tail_of}
+use Rattle.rules.specs.declared.Refusal.{Refusal}
 use Rattle.writeback.specs.WriteBack.{write_back_of}
 use Rattle.scan.specs.declared.Seen.{Seen}
 use Rattle.scan.specs.Slots.{store_words}
@@ -16,7 +17,7 @@ pub record PutAs (q : RxQueue) (ring list : List ℕ) (address : ℕ) (ring' lis
   pub list_is : list' ≡ set list (tail_of q.shared) address
 
 -- what a scan gives, with the buffer size beside the record's shared part and the last slot's words read
-abbrev pub taken_as : RxQueue → Seen → Taken
+abbrev pub taken_as : RxQueue → Seen Refusal → Taken
 taken_as q s =
     record {
       answer = s.answer;

@@ -1,7 +1,8 @@
 -- What a scan gives back: what is told of the slots of the packet, or zeros (01, "Receiving").
 -- Assumes nothing.
-use Rattle.std.specs.Prelude.{ℕ, Err, ◌+◌, List, [], ◌∷◌, ◌++◌, map, length, take, replicate}
-use Rattle.rules.specs.Rules.{Answer, done}
+use Rattle.std.specs.Prelude.{ℕ, Result, Err, ⊤, ◌+◌, List, [], ◌∷◌, ◌++◌, map, length, take, replicate}
+use Rattle.rules.specs.declared.Refusal.{Refusal}
+use Rattle.rules.specs.Rules.{done}
 use Rattle.ring.specs.declared.Queue.{Queue}
 use Rattle.ring.specs.Queue.{advanced}
 use Rattle.places.specs.Words.{Words, length_of}
@@ -30,7 +31,7 @@ last_words (s ∷ []) = s.words
 last_words (s ∷ (t ∷ r)) = last_words (t ∷ r)
 
 -- the answer and the record, the slot count, the total length, each slot's posted address and length, and the last slot's words
-unfoldable pub seen_of : Answer → Queue → List Slot → Seen
+unfoldable pub seen_of : {R : Type 0} → Result ⊤ R → Queue → List Slot → Seen R
 seen_of a q p =
     record {
       answer = a;
@@ -44,6 +45,6 @@ seen_of a q p =
     }
 
 -- a refusal gives the record as it came and zeros; with a packet head moves on by its slots, and posted falls by them
-unfoldable pub seen_by : Look → Queue → Seen
+unfoldable pub seen_by : Look → Queue → Seen Refusal
 seen_by (refuse r) q = seen_of (Err r) q []
 seen_by (whole p) q = seen_of done (advanced q (length p)) p

@@ -6,7 +6,7 @@ ghost use Rattle.scan.specs.Scan.{allowed};
 ghost use Rattle.scan.specs.Told.{seen_of};
 
 use ring::Queue;
-use rules::Answer;
+use rules::Refusal;
 
 // A packet is 1 to 5 slots with data, then at most one of length 0, which is its last.
 const DATA_SLOTS: usize = 5;
@@ -17,8 +17,8 @@ pub const PACKET_SLOTS: usize = DATA_SLOTS + 1;
 // (places past the slots are 0) and the last slot's words.
 // Kept: zeros beside a refusal (`seen_by`; edits refused_of_one, refused_addresses); and two arrays, as in receive's Packet.
 #[derive(Clone, Copy, Debug, PartialEq, Eq)]
-pub struct Seen {
-    pub answer: Answer,
+pub struct Seen<R = Refusal> {
+    pub answer: Result<(), R>,
     pub queue: Queue,
     pub count: usize,
     pub total: usize,
@@ -42,8 +42,9 @@ pub fn slot_ok(buffer: usize, k: usize, word1: u64) -> bool
     }
 }
 
-// An answer with no packet: the record as it came, and zeros.
-pub fn refused(queue: Queue, answer: Answer) -> Seen
+// An answer with no packet: the record as it came, and zeros. A refusal is of any type, so that a number can be one.
+#[tactic(auto, unfolding(crate::specs::Told::seen_of, crate::specs::Told::padded, crate::specs::Told::sum, crate::specs::Told::last_words))]
+pub fn refused<R>(queue: Queue, answer: Result<(), R>) -> Seen<R>
     ensures { result ≡ seen_of answer queue [] }
 {
     Seen {
