@@ -1,7 +1,8 @@
 -- What a reading goes by: the answer made of what was seen is that of the element at head.
 -- Assumes nothing.
-use Rattle.std.proofs.Common.{ℕ, ◌+◌, ◌*◌, ◌≤◌, ◌≡◌, ap, ◌∙◌, Bool, not, ◌&&◌, cond, List, [], ◌∷◌, ◌++◌, arith, ltb-false, ltb, eqb, length, is_ok, Result, Ok, Err}
+use Rattle.std.proofs.Common.{ℕ, ◌+◌, ◌*◌, ◌≤◌, ◌≡◌, ap, ◌∙◌, Bool, not, ◌&&◌, cond, List, [], ◌∷◌, ◌++◌, arith, ltb-false, ltb, eqb, length, is_ok, Result, Ok, Err, refl}
 use Rattle.std.specs.Bool.{⊤}
+use Rattle.rules.specs.declared.Refusal.{Refusal}
 use Rattle.rules.specs.Rules.{Check, answer_of, done, Answer, answer_at, number, number_of}
 use Rattle.rules.proofs.Tests.{none}
 use Rattle.rules.proofs.Checks.{passed, asked_next, first_pass}
@@ -13,31 +14,42 @@ use Rattle.mail_ring.proofs.Looks.{look_next, seen_lent}
 use Rattle.mail_request.specs.Request.{most_length}
 use Rattle.mail_reading.specs.Reading.{has_buffer, element_checks, MadeAs, ReadAs}
 
--- where a refusal is itself, a reading answers what the look does, or else what the checks do
-pub read_is : (looked a : Answer) (cs : List Check) → ReadAs (λ r n. n ≡ r) looked cs a → a ≡ cond (is_ok looked) (answer_of cs) looked
-unfolding ReadAs
-read_is (Ok u) a cs h = made (answer_of cs) a h
-  where
-    made : (b a : Answer) → MadeAs (λ r n. n ≡ r) b a → a ≡ b
-    made (Ok u) a h = h
-    made (Err r) (Ok u) h = absurd h
-    made (Err r) (Err n) h = ap Err h
-read_is (Err n) a cs h = h
+-- an answer, its refusal made into another
+abbrev made_of : {R : Type 0} → (Refusal → R) → Answer → Result ⊤ R
+made_of f (Ok u) = Ok u
+made_of f (Err r) = Err (f r)
 
--- and where it is its number, the same by numbers: one that a look gave is handed on, whatever it is
+-- a reading answers what the look does, or else what the checks do, their refusal made into another
+read_made : {R : Type 0} (f : Refusal → R) (looked a : Result ⊤ R) (cs : List Check) → ReadAs (λ r n. n ≡ f r) looked cs a → a ≡ cond (is_ok looked) (made_of f (answer_of cs)) looked
+unfolding ReadAs
+read_made {R} f (Ok u) a cs h = go (answer_of cs) a h
+  where
+    go : (b : Answer) (a : Result ⊤ R) → MadeAs (λ r n. n ≡ f r) b a → a ≡ made_of f b
+    go (Ok u) a h = h
+    go (Err r) (Ok u) h = absurd h
+    go (Err r) (Err n) h = ap Err h
+read_made f (Err n) a cs h = h
+
+-- into itself
+pub read_is : (looked a : Answer) (cs : List Check) → ReadAs (λ r n. n ≡ r) looked cs a → a ≡ cond (is_ok looked) (answer_of cs) looked
+read_is looked a cs h = read_made (λ r. r) looked a cs h ∙ ap (λ b. cond (is_ok looked) b looked) (same (answer_of cs))
+  where
+    same : (b : Answer) → made_of (λ r. r) b ≡ b
+    same (Ok u) = refl
+    same (Err r) = refl
+
+-- into its number: one that a look gave is handed on, whatever it is
 abbrev number_in : Result ⊤ ℕ → ℕ
 number_in (Ok u) = 0
 number_in (Err n) = n
 
 pub read_number : (looked a : Result ⊤ ℕ) (cs : List Check) → ReadAs (λ r n. n ≡ number r) looked cs a → number_in a ≡ cond (is_ok looked) (number_of (answer_of cs)) (number_in looked)
-unfolding ReadAs
-read_number (Ok u) a cs h = made (answer_of cs) a h
+read_number looked a cs h = ap number_in (read_made number looked a cs h) ∙ by_look looked (answer_of cs)
   where
-    made : (b : Answer) (a : Result ⊤ ℕ) → MadeAs (λ r n. n ≡ number r) b a → number_in a ≡ number_of b
-    made (Ok u) a h = ap number_in h
-    made (Err r) (Ok u) h = absurd h
-    made (Err r) (Err n) h = h
-read_number (Err n) a cs h = ap number_in h
+    by_look : (l : Result ⊤ ℕ) (b : Answer) → number_in (cond (is_ok l) (made_of number b) l) ≡ cond (is_ok l) (number_of b) (number_in l)
+    by_look (Ok u) (Ok v) = refl
+    by_look (Ok u) (Err r) = refl
+    by_look (Err n) b = refl
 
 module _ (wrong : Element → ℕ → Bool) (r : Ring) (ring list : List ℕ) (lent : ℕ) where
   abbrev read_checks : List Check

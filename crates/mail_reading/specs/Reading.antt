@@ -34,11 +34,12 @@ message_wrong e p = any_of (not (eqb e.opcode message_from_pf) ∷ not_echoed (h
 abbrev pub element_checks : Bool → Element → ℕ → List Check
 element_checks wrong e lent = 5 when wrong ∷ 11 when length_wrong (has_buffer e) e.length lent ∷ []
 
--- what a look at the element refuses stands, whatever it is; else the checks answer, a refusal as it is made: itself, or its number
+-- an answer, its refusal as it is made: itself, or its number
 abbrev pub MadeAs : {R : Type 0} → (Refusal → R → Type 0) → Answer → Result ⊤ R → Type 0
 MadeAs made (Ok u) a = a ≡ Ok u
 MadeAs made (Err r) a = IsErrAnd a (made r)
 
+-- what a reading answers: what the look at the element refuses, as it stands; else what the checks answer
 unfoldable pub ReadAs : {R : Type 0} → (Refusal → R → Type 0) → Result ⊤ R → List Check → Result ⊤ R → Type 0
 ReadAs made (Ok u) cs a = MadeAs made (answer_of cs) a
 ReadAs made (Err n) cs a = a ≡ Err n
