@@ -1,5 +1,5 @@
 -- The reader's steps, taken together, are the number that the word writes. Assumes nothing.
-use Rattle.std.proofs.Common.{◌≡◌, ℕ, suc, ◌+◌, ◌^◌, ◌≤◌, ◌<◌, Bool, true, false, ◌&&◌, cond, List, [], ◌∷◌, ltb, Some, None, refl, arith, lt-ltb, le-ltb, ltb-true, ltb-false, sym, length, get_or, drop, drop-cons, drop_of_length-le, add-one}
+use Rattle.std.proofs.Common.{◌≡◌, ℕ, suc, ◌+◌, ◌^◌, ◌≤◌, ◌<◌, Bool, true, false, ◌&&◌, cond, List, [], ◌∷◌, ltb, Option, Some, None, SomeIff, refl, arith, lt-ltb, le-ltb, ltb-true, ltb-false, sym, length, get_or, drop, drop-cons, drop_of_length-le, add-one}
 use mathlib.Core.Bool.{and-false}
 use mathlib.Core.List.{foldl}
 use Rattle.std.proofs.lemmas.Option.{none-some, cond_some}
@@ -11,10 +11,11 @@ pub too_large : (v b : ℕ) → 2 ^ 64 ≤ one_more v b → next_read v b ≡ No
 unfolding next_read
 too_large v b h = rw (le-ltb (one_more v b) (2 ^ 64) h, and-false)
 
--- a digit for which there is room
-pub digit_added : (v b m : ℕ) → is_digit b ≡ true → m ≡ one_more v b → m < 2 ^ 64 → Some m ≡ next_read v b
+-- what a sum that is told to be too large answers is the step
+pub digit_added : (v b m : ℕ) (r : Option ℕ) → is_digit b ≡ true → m ≡ one_more v b → SomeIff r (m < 2 ^ 64) m → r ≡ next_read v b
 unfolding next_read
-digit_added v b m d e h = rw (d, lt-ltb (one_more v b) (2 ^ 64) (omega (arith, h, e)), e)
+digit_added v b m None d e h = rw (d, le-ltb (one_more v b) (2 ^ 64) (omega (arith, h, e)))
+digit_added v b m (Some n) d e h = rw (d, lt-ltb (one_more v b) (2 ^ 64) (omega (arith, h.0, e)), ← e, h.1)
 
 -- digits behind a number do not make it smaller
 grows : (v : ℕ) (w : List ℕ) → v ≤ foldl one_more v w

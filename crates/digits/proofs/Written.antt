@@ -1,5 +1,5 @@
 -- The digits of a number: one to twenty, without a leading zero, and read back they give the number. Assumes nothing.
-use Rattle.std.proofs.Common.{ℕ, zero, suc, ◌+◌, ◌-◌, ◌*◌, ◌/◌, ◌%◌, ◌^◌, ◌≤◌, ◌<◌, ◌≡◌, refl, ap, sym, Bool, true, false, List, [], ◌∷◌, ◌++◌, length, set, ltb, arith, pow-suc, lt-ltb, le-ltb, ltb-true, ltb-false, length-append}
+use Rattle.std.proofs.Common.{ℕ, zero, suc, ◌+◌, ◌-◌, ◌*◌, ◌/◌, ◌%◌, ◌^◌, ◌≤◌, ◌<◌, max, ◌≡◌, refl, ap, sym, Bool, true, false, List, [], ◌∷◌, ◌++◌, length, set, ltb, arith, pow-suc, lt-ltb, le-ltb, ltb-true, ltb-false, length-append}
 use lib.Seq.{sets}
 use Rattle.digits.proofs.Places.{sets_last}
 use Rattle.digits.specs.Digits.{digits_in, digits_of}
@@ -74,9 +74,14 @@ log_in = each (λ k n ds. (e : ℕ) → 10 ^ e ≤ n → n < 10 * 10 ^ e → len
     more n ds h l zero a b = absurd (omega arith)
     more n ds h l (suc e) a b = omega (arith, length-append ds ((48 + n % 10) ∷ []), l e (omega (arith, rw (pow-suc 10 e) at a)) (omega (arith, rw (pow-suc 10 e) at b)))
 
-pub count_of_digits : (n e : ℕ) → n < 2 ^ 64 → 10 ^ e ≤ n → n < 10 * 10 ^ e → length (digits_of n) ≡ 1 + e
+pub count_of_digits : (n e : ℕ) → n < 2 ^ 64 → 10 ^ e ≤ max n 1 → max n 1 < 10 * 10 ^ e → length (digits_of n) ≡ 1 + e
 unfolding digits_of
-count_of_digits n e h a b = log_in 20 n (omega arith) (omega arith) e a b
+count_of_digits zero e h a b = rw (in_last 19 0 (omega arith)) (none e a)
+  where
+    none : (e : ℕ) → 10 ^ e ≤ max 0 1 → 1 ≡ 1 + e
+    none zero a = refl
+    none (suc e) a = absurd (omega (arith, rw (pow-suc 10 e) at a, ten_pos e))
+count_of_digits (suc n) e h a b = log_in 20 (suc n) (omega arith) (omega arith) e (omega arith) (omega arith)
 
 pub one_digit : (n : ℕ) → n < 10 → length (digits_of n) ≡ 1
 unfolding digits_of

@@ -55,11 +55,15 @@ module _ (wrong : Element → ℕ → Bool) (r : Ring) (ring list : List ℕ) (l
   abbrev read_checks : List Check
   read_checks = look_checks r ring list ++ element_checks (wrong (head_element r ring list) (head_posted r ring list)) (head_element r ring list) lent
 
-  pub read_answer : {s : Seen} {w : Bool} {a : Answer} → s ≡ look_of r ring list → w ≡ wrong s.element s.posted → ReadAs (λ r n. n ≡ r) s.answer (element_checks w s.element lent) a → a ≡ answer_of read_checks
+  pub read_answer : {s : Seen} {w : Bool} {a : Answer} → s ≡ look_of r ring list → w ≡ wrong s.element s.posted → a ≡ cond (is_ok s.answer) (answer_of (element_checks w s.element lent)) s.answer → a ≡ answer_of read_checks
   read_answer {s} {w} {a} e f g =
-      read_is s.answer a _ g ∙ ap (λ (b : Bool). cond (is_ok s.answer) (answer_of (element_checks b s.element lent)) s.answer) f
+      g ∙ ap (λ (b : Bool). cond (is_ok s.answer) (answer_of (element_checks b s.element lent)) s.answer) f
       ∙ ap (λ (t : Seen). cond (is_ok t.answer) (answer_of (element_checks (wrong t.element t.posted) t.element lent)) t.answer) e
       ∙ look_next r ring list (λ x p. element_checks (wrong x p) x lent)
+
+  -- so what `answer` gives, where a refusal is itself
+  pub read_as_answer : {s : Seen} {w : Bool} {a : Answer} → s ≡ look_of r ring list → w ≡ wrong s.element s.posted → ReadAs (λ r n. n ≡ r) s.answer (element_checks w s.element lent) a → a ≡ answer_of read_checks
+  read_as_answer {s} {w} {a} e f g = read_answer e f (read_is s.answer a _ g)
 
   pub read_looked : answer_of read_checks ≡ done → answer_of (look_checks r ring list) ≡ done
   read_looked z = first_pass (look_checks r ring list) (element_checks (wrong (head_element r ring list) (head_posted r ring list)) (head_element r ring list) lent) tt z

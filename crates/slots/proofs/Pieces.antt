@@ -1,6 +1,7 @@
 -- Numbers stored and read in pieces: stores one right after another are one store, and a part of what was stored reads as that part.
 -- Assumes nothing.
-use Rattle.std.proofs.Common.{ℕ, zero, suc, ◌+◌, ◌≤◌, ◌<◌, ◌≡◌, refl, sym, ap, ◌∙◌, List, [], ◌∷◌, ◌++◌, add-zero, zero-add, add-one, arith, length, get_or, set, take, drop, length-append, ext_get_or, drop-cons}
+use Rattle.std.proofs.Common.{ℕ, zero, suc, ◌+◌, ◌≤◌, ◌<◌, ◌≡◌, refl, sym, ap, ◌∙◌, List, [], ◌∷◌, ◌++◌, append_assoc, add-zero, zero-add, add-one, arith, length, get_or, set, take, drop, length-append, length-set, take-append-drop, ext_get_or, drop-cons, drop-set-lt}
+use Rattle.std.proofs.lemmas.List.{take_more_set}
 use Rattle.slots.specs.Memory.{store_from, read_from}
 use Rattle.slots.proofs.Stores.{store_here, length_read, get_d_read}
 
@@ -27,6 +28,14 @@ then {m₀} {m} {m'} {xs} {i} {n} ys k s e l = record {
   is = e ∙ ap (λ (r : List ℕ). store_from r (i + n) ys) s.is ∙ ap (λ (j : ℕ). store_from (store_from m₀ i xs) (i + j) ys) (sym s.count) ∙ sym (store_append m₀ i xs ys);
   count = length-append xs ys ∙ ap (λ (j : ℕ). j + length ys) s.count ∙ ap (λ (j : ℕ). n + j) l;
 }
+
+-- a row stored whole: what stood before it, the row, and what stands behind it
+pub store_whole : (m : List ℕ) (i : ℕ) (xs : List ℕ) → i + length xs ≤ length m → store_from m i xs ≡ take i m ++ (xs ++ drop (i + length xs) m)
+store_whole m i [] h = rw add-zero (sym (take-append-drop i m))
+store_whole m i (x ∷ xs) h =
+    let next : i + suc (length xs) ≡ i + 1 + length xs = omega arith in
+    store_whole (set m i x) (i + 1) xs (rw length-set (omega arith))
+    ∙ rw (take_more_set m i x (omega arith), append_assoc, next, drop-set-lt (i + 1 + length xs) m i x (omega arith))
 
 -- the first of what is left is stored, and the others are left
 pub store_one : (m : List ℕ) (at : ℕ) (xs : List ℕ) (i : ℕ) (end : List ℕ) → i < length xs → store_from m (at + i) (drop i xs) ≡ end

@@ -10,5 +10,5 @@ returns c =
       | then-n-lt10 w ↦ rw w.result-is (omega (arith, one_digit c.args.n (omega arith)))
       | else-n-lt10 w ↦
           let e = w.ilog10.ensures in
-          rw w.result-is (omega (arith, count_of_digits c.args.n w.ilog10.result (omega arith) e.power_le e.next_power_gt))
+          rw w.result-is (omega (arith, count_of_digits c.args.n w.ilog10.result (omega arith) (omega (arith, e.power_le)) (omega (arith, e.next_power_gt))))
     ]
