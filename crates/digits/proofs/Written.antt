@@ -83,9 +83,9 @@ count_of_digits zero e h a b = rw (in_last 19 0 (omega arith)) (none e a)
     none (suc e) a = absurd (omega (arith, rw (pow-suc 10 e) at a, ten_pos e))
 count_of_digits (suc n) e h a b = log_in 20 (suc n) (omega arith) (omega arith) e (omega arith) (omega arith)
 
+-- so one digit below ten, 0 too
 pub one_digit : (n : ℕ) → n < 10 → length (digits_of n) ≡ 1
-unfolding digits_of
-one_digit n h = ap length (in_last 19 n h)
+one_digit n h = count_of_digits n 0 (omega arith) (omega arith) (omega arith)
 
 -- the last k digits of a number, zeros before it too
 abbrev pub lasts : ℕ → ℕ → List ℕ
